@@ -1,0 +1,36 @@
+//! The Rust crate dlmalloc 0.2.14 as an oracle: what it answers on one fixed arena, in offsets.
+
+#[cfg(crate_there)]
+pub mod history;
+#[cfg(crate_there)]
+#[allow(dead_code, clippy::all)]
+mod inside;
+#[cfg(crate_there)]
+pub mod morning;
+#[cfg(crate_there)]
+pub mod oracle;
+#[cfg(crate_there)]
+pub mod play;
+#[cfg(crate_there)]
+pub mod record;
+#[cfg(crate_there)]
+pub mod table;
+
+/// The system below the crate: its own trait, as its lib.rs declares it.
+///
+/// # Safety
+/// `alloc` must hand out memory that nothing else uses.
+pub unsafe trait Allocator: Send {
+    fn alloc(&self, size: usize) -> (*mut u8, usize, u32);
+    fn remap(&self, ptr: *mut u8, oldsize: usize, newsize: usize, can_move: bool) -> *mut u8;
+    fn free_part(&self, ptr: *mut u8, oldsize: usize, newsize: usize) -> bool;
+    fn free(&self, ptr: *mut u8, size: usize) -> bool;
+    fn can_release_part(&self, flags: u32) -> bool;
+    fn allocates_zeros(&self) -> bool;
+    fn page_size(&self) -> usize;
+}
+
+/// What every program here says where the crate's source isn't at hand.
+pub fn say_missing() {
+    println!("nothing compared: the folder that NUKASOBE_CRATE names (default ../../shared/docs/src) has no src/dlmalloc.rs");
+}

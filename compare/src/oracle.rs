@@ -1,0 +1,272 @@
+//! The crate over one fixed arena. Every place is a byte offset from the arena's start.
+use crate::inside::{Dlmalloc, Slot};
+use crate::Allocator;
+use std::alloc::{alloc_zeroed, dealloc, Layout};
+use std::cell::Cell;
+
+/// No place.
+pub const NONE: u64 = u64::MAX;
+/// The parent word of a tree's root.
+pub const ROOT: u64 = u64::MAX - 1;
+
+/// Hands out the whole arena once, whatever is asked, and nothing ever after.
+struct Region {
+    base: *mut u8,
+    bytes: usize,
+    given: Cell<bool>,
+}
+
+unsafe impl Send for Region {}
+
+unsafe impl Allocator for Region {
+    fn alloc(&self, _size: usize) -> (*mut u8, usize, u32) {
+        if self.given.replace(true) {
+            (std::ptr::null_mut(), 0, 0)
+        } else {
+            (self.base, self.bytes, 0)
+        }
+    }
+    fn remap(&self, _: *mut u8, _: usize, _: usize, _: bool) -> *mut u8 {
+        std::ptr::null_mut()
+    }
+    fn free_part(&self, _: *mut u8, _: usize, _: usize) -> bool {
+        false
+    }
+    fn free(&self, _: *mut u8, _: usize) -> bool {
+        false
+    }
+    fn can_release_part(&self, _: u32) -> bool {
+        false
+    }
+    fn allocates_zeros(&self) -> bool {
+        true
+    }
+    fn page_size(&self) -> usize {
+        4096
+    }
+}
+
+#[derive(Clone, Copy, Debug, PartialEq, Eq)]
+pub struct Chunk {
+    pub offset: u64,
+    pub size: u64,
+    pub used: bool,
+}
+
+/// A tree bin: a node's place, the rest of its ring in the order of `next`, its size, its children.
+#[derive(Clone, Debug, PartialEq, Eq)]
+pub struct Tree {
+    pub place: u64,
+    pub ring: Vec<u64>,
+    pub size: u64,
+    pub child: [Option<Box<Tree>>; 2],
+}
+
+pub struct Oracle {
+    // boxed: the crate's small bins point into the record itself
+    heap: Box<Dlmalloc<Region>>,
+    base: *mut u8,
+    layout: Layout,
+}
+
+impl Drop for Oracle {
+    fn drop(&mut self) {
+        unsafe { dealloc(self.base, self.layout) }
+    }
+}
+
+impl Oracle {
+    /// A fresh arena of zero words. The crate has taken its region: it has a top.
+    pub fn new(words: usize) -> Oracle {
+        Oracle::filled(words, |_| 0)
+    }
+
+    /// A fresh arena whose word k held `fill(k)` before set-up.
+    pub fn filled(words: usize, fill: impl Fn(usize) -> u64) -> Oracle {
+        assert!(words.is_multiple_of(2) && (16..=8192).contains(&words));
+        let layout = Layout::from_size_align(words * 8, 4096).unwrap();
+        let base = unsafe { alloc_zeroed(layout) };
+        assert!(!base.is_null());
+        for k in 0..words {
+            unsafe { base.cast::<u64>().add(k).write(fill(k)) }
+        }
+        let region = Region {
+            base,
+            bytes: words * 8,
+            given: Cell::new(false),
+        };
+        let mut heap = Box::new(Dlmalloc::new(region));
+        // the first malloc takes the region even where it has no room; one as long as the arena never has
+        let refused = unsafe { heap.malloc(words * 8) };
+        assert!(refused.is_null() && heap.record().top == base as usize);
+        Oracle { heap, base, layout }
+    }
+
+    /// The arena's byte length.
+    pub fn bytes(&self) -> u64 {
+        self.layout.size() as u64
+    }
+
+    fn offset(&self, address: usize) -> u64 {
+        let offset = (address - self.base as usize) as u64;
+        assert!(offset < self.bytes());
+        offset
+    }
+
+    fn answer(&self, block: *mut u8) -> Option<u64> {
+        (!block.is_null()).then(|| self.offset(block as usize))
+    }
+
+    fn block(&self, offset: u64) -> *mut u8 {
+        assert!(offset < self.bytes());
+        self.base.wrapping_add(offset as usize)
+    }
+
+    // ---- the four calls; refusal 4 is answered here and never reaches the crate
+
+    pub fn malloc(&mut self, bytes: u64) -> Option<u64> {
+        if bytes > self.bytes() {
+            return None;
+        }
+        let block = unsafe { self.heap.malloc(bytes as usize) };
+        self.answer(block)
+    }
+
+    pub fn free(&mut self, offset: u64) {
+        let block = self.block(offset);
+        unsafe { self.heap.free(block) }
+    }
+
+    pub fn realloc(&mut self, offset: u64, bytes: u64) -> Option<u64> {
+        if bytes > self.bytes() {
+            return None;
+        }
+        let block = self.block(offset);
+        let moved = unsafe { self.heap.realloc(block, bytes as usize) };
+        self.answer(moved)
+    }
+
+    pub fn memalign(&mut self, align: u64, bytes: u64) -> Option<u64> {
+        if bytes > self.bytes() {
+            return None;
+        }
+        let block = unsafe { self.heap.memalign(align as usize, bytes as usize) };
+        self.answer(block)
+    }
+
+    // ---- readers
+
+    /// The top and its size.
+    pub fn top(&self) -> (u64, u64) {
+        let r = self.heap.record();
+        (self.offset(r.top), r.topsize as u64)
+    }
+
+    /// The spare chunk and its size.
+    pub fn dv(&self) -> Option<(u64, u64)> {
+        let r = self.heap.record();
+        (r.dvsize != 0).then(|| (self.offset(r.dv), r.dvsize as u64))
+    }
+
+    pub fn smallmap(&self) -> u32 {
+        self.heap.record().smallmap
+    }
+
+    pub fn treemap(&self) -> u32 {
+        self.heap.record().treemap
+    }
+
+    /// Word k of the arena, as it stands.
+    pub fn word(&self, k: u64) -> u64 {
+        assert!(k * 8 < self.bytes());
+        unsafe { self.base.cast::<u64>().add(k as usize).read() }
+    }
+
+    /// Writes word k of the arena, as an owner does in its block.
+    pub fn set_word(&mut self, k: u64, value: u64) {
+        assert!(k * 8 < self.bytes());
+        unsafe { self.base.cast::<u64>().add(k as usize).write(value) }
+    }
+
+    /// Word k of the chunk at an offset, as it stands.
+    pub fn chunk_word(&self, chunk: u64, k: u64) -> u64 {
+        self.word(chunk / 8 + k)
+    }
+
+    /// Word k (2 to 6) of a binned chunk, its pointer read as an offset.
+    pub fn link(&self, chunk: u64, k: u64) -> u64 {
+        self.as_link(self.chunk_word(chunk, k) as usize)
+    }
+
+    fn as_link(&self, address: usize) -> u64 {
+        match self.heap.slot(address) {
+            _ if address == 0 => NONE,
+            Slot::Small => NONE,
+            Slot::Tree => ROOT,
+            Slot::Elsewhere => self.offset(address),
+        }
+    }
+
+    /// The chunks from 0 to the top in address order, the top left out.
+    pub fn chunks(&self) -> Vec<Chunk> {
+        let (top, _) = self.top();
+        let mut all = Vec::new();
+        let mut offset = 0;
+        while offset < top {
+            let head = self.chunk_word(offset, 1);
+            let (size, used) = (head & !7, head & 2 != 0);
+            assert!(size >= 32 && size.is_multiple_of(16));
+            all.push(Chunk { offset, size, used });
+            offset += size;
+        }
+        assert_eq!(offset, top);
+        all
+    }
+
+    /// The newest chunk of a small bin.
+    pub fn small_head(&self, bin: usize) -> Option<u64> {
+        let r = self.heap.record();
+        (r.smallmap >> bin & 1 == 1).then(|| self.offset(r.newest[bin]))
+    }
+
+    /// The root of a tree bin.
+    pub fn tree_root(&self, bin: usize) -> Option<u64> {
+        let r = self.heap.record();
+        (r.treemap >> bin & 1 == 1).then(|| self.offset(r.roots[bin]))
+    }
+
+    /// A small bin from the newest.
+    pub fn small_bin(&self, bin: usize) -> Vec<u64> {
+        let mut all = Vec::new();
+        let mut next = self.small_head(bin);
+        while let Some(chunk) = next {
+            all.push(chunk);
+            let older = self.link(chunk, 2);
+            next = (older != NONE).then_some(older);
+        }
+        all
+    }
+
+    pub fn tree_bin(&self, bin: usize) -> Option<Box<Tree>> {
+        self.tree_root(bin).map(|root| self.tree_at(root))
+    }
+
+    fn tree_at(&self, place: u64) -> Box<Tree> {
+        let mut ring = Vec::new();
+        let mut next = self.link(place, 3);
+        while next != place {
+            ring.push(next);
+            next = self.link(next, 3);
+        }
+        let below = |k| {
+            let child = self.link(place, k);
+            (child != NONE).then(|| self.tree_at(child))
+        };
+        Box::new(Tree {
+            place,
+            ring,
+            size: self.chunk_word(place, 1) & !7,
+            child: [below(4), below(5)],
+        })
+    }
+}

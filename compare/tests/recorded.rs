@@ -1,0 +1,9 @@
+//! The committed record is what the crate answers today.
+#![cfg(crate_there)]
+
+#[test]
+fn record_is_reproduced() {
+    let file = concat!(env!("CARGO_MANIFEST_DIR"), "/recorded.txt");
+    let (text, _) = compare::record::recorded(1, compare::record::HISTORIES);
+    assert!(std::fs::read_to_string(file).unwrap() == text);
+}

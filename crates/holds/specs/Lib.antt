@@ -1,0 +1,21 @@
+-- What it means that a record and an arena hold a heap, and the elementary steps that keep it.
+pub mod Bins
+pub mod Holds
+pub mod Unique
+pub mod Where
+pub mod Frame
+pub mod Ops
+pub mod BinSmall
+pub mod BinLarge
+pub mod Bin
+pub mod Retile
+pub mod Owner
+pub mod Lookup
+pub mod Spot
+pub mod Serving
+pub mod FirstBin
+pub mod Newest
+pub mod BestFit
+pub mod SearchWords
+pub mod MallocSource
+pub mod NoRoom

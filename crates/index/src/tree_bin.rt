@@ -1,0 +1,58 @@
+// The bins of large chunks, and the way down a bin's tree, for words of 64 bits.
+ghost use mathlib.Core.Path.{_≡_};
+ghost use Prim.Native.Nat.{_*_, _%_, _^_, _<_};
+ghost use Rattle.index.specs.TreeBin.{minSize, treeIndex, leftShift, keyAt, side};
+
+// The bin of a size: 0 when size >> 8 is 0, 31 when it is above 0xffff, else from its leading zeros.
+pub fn compute_tree_index(size: u64) -> u32
+    ensures { λ r. ⌜ r ≡ treeIndex size ⌝ }
+{
+    let x = size >> 8;
+    if x == 0 {
+        0
+    } else if x > 0xffff {
+        31
+    } else {
+        let k = 63 - u64::leading_zeros(x);
+        2 * k + (size >> (k + 7) & 1) as u32
+    }
+}
+
+// The smallest size of a bin.
+pub fn min_size_for_tree_index(i: u32) -> u64
+    ensures { λ r. ⌜ r ≡ minSize (i % 32) ⌝ }
+{
+    let bin = i % 32;
+    let half = bin >> 1;
+    let odd = (bin & 1) as u64;
+    (1 << (half + 8)) | (odd << (half + 7))
+}
+
+// How far a size of the bin is shifted left to have its first branching bit on top.
+pub fn leftshift_for_tree_index(i: u32) -> u32
+    ensures { λ r. ⌜ r ≡ leftShift 64 (i % 32) ⌝ }
+{
+    let bin = i % 32;
+    if bin == 31 { 0 } else { 63 - ((bin >> 1) + 6) }
+}
+
+// The shifted size that the way down starts with.
+pub fn first_key(size: u64, i: u32) -> u64
+    ensures { λ r. ⌜ r ≡ keyAt 64 (i % 32) size 0 ⌝ }
+{
+    size << leftshift_for_tree_index(i)
+}
+
+// The child that a shifted size chooses: its highest bit.
+pub fn child_side(key: u64) -> u64
+    ensures { λ r. ⌜ (r ≡ side 64 key) × (r < 2) ⌝ }
+{
+    key >> 63
+}
+
+// The shifted size one level down.
+pub fn next_key(key: u64) -> u64
+    ensures { λ r. ⌜ r ≡ key * 2 % 2 ^ 64 ⌝ }
+{
+    key << 1
+}

@@ -1,0 +1,6 @@
+-- Chunks in address order, and the steps of retiling.
+pub mod Tiling
+pub mod Steps
+pub mod Free
+pub mod Swaps
+pub mod Regrow
