@@ -1,5 +1,6 @@
 //! Document 01's "A morning on 128 words": every case that the crate can answer, beside the document's numbers.
 use crate::oracle::Oracle;
+use crate::play::block_words;
 
 const M: &str = "malloc 24 = 16; malloc 25 = 48; malloc 232 = 96; malloc 233 = 336; top = 576 368";
 const D: &str = "free 96 = done; malloc 24 = 96; dv = 112 208";
@@ -32,10 +33,8 @@ const MARK: u64 = 0x6d61_726b;
 const FILL: u64 = 0x6669_6c6c;
 
 pub fn run() {
-    let differ = CASES
-        .iter()
-        .filter(|(words, case)| !agrees(*words, case))
-        .count();
+    let answers = CASES.map(|(words, case)| agrees(words, case));
+    let differ = answers.iter().filter(|same| !**same).count();
     println!("left out, as the crate has no answer: free 16 twice (5); 14, 17 and 8,194 words (1)");
     println!("{} cases, {differ} differ", CASES.len());
     if differ > 0 {
@@ -75,21 +74,15 @@ fn ask(heap: &mut Oracle, question: &str) -> String {
             done()
         }
         "mark" => {
-            (0..usable(heap, n[0])).for_each(|k| heap.set_word(n[0] / 8 + k, MARK));
+            block_words(heap, n[0]).for_each(|k| heap.set_word(k, MARK));
             done()
         }
-        "marked" => (0..usable(heap, n[0]))
-            .filter(|k| heap.word(n[0] / 8 + k) == MARK)
-            .count()
-            .to_string(),
+        "marked" => count(heap, block_words(heap, n[0]), MARK),
+        "untouched" => count(heap, 0..heap.bytes() / 8, FILL),
         "top" => pair(heap.top()),
         "dv" => heap.dv().map_or("none".to_string(), pair),
         "chunk" => chunk(heap, n[0]),
         "word" => heap.word(n[0]).to_string(),
-        "untouched" => (0..heap.bytes() / 8)
-            .filter(|k| heap.word(*k) == FILL)
-            .count()
-            .to_string(),
         "bins" => bins(heap),
         _ => panic!("no such question: {question}"),
     }
@@ -103,9 +96,9 @@ fn pair((place, size): (u64, u64)) -> String {
     format!("{place} {size}")
 }
 
-/// The words that a block's owner has.
-fn usable(heap: &Oracle, block: u64) -> u64 {
-    (heap.chunk_word(block - 16, 1) & !7) / 8 - 1
+/// How many of these words hold a value.
+fn count(heap: &Oracle, words: std::ops::Range<u64>, value: u64) -> String {
+    words.filter(|k| heap.word(*k) == value).count().to_string()
 }
 
 fn chunk(heap: &Oracle, offset: u64) -> String {

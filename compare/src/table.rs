@@ -1,18 +1,19 @@
 //! Writes histories with the crate's answers as antt modules: each a table and its proof by computation.
 use crate::history::{Call, Setting};
-use crate::oracle::Tree;
+use crate::oracle::{Chunk, Tree};
 use crate::play::{history, refusal, Counts, Done, History, Shot, Step};
 use std::fmt::Write;
 use std::path::PathBuf;
 use std::{env, fs};
 
+/// The module that says what a step means; the names that it brings in are the rules' own.
 const STEPS: &str = include_str!("steps.txt");
-/// the whole heap is looked at after each so many calls, and at the end
-const LOOK_EVERY: usize = 8;
-/// words of the largest arena
-const LARGEST: usize = 4096;
-
+/// How each table's module begins.
 const HEADER: &str = include_str!("header.txt");
+/// The whole heap is looked at after each so many calls, and at the end.
+const LOOK_EVERY: usize = 8;
+/// Words of the largest arena.
+const LARGEST: usize = 4096;
 
 /// `rules_table [FOLDER [FIRST_SEED [HISTORIES [PER_MODULE]]]]`
 pub fn run() {
@@ -27,11 +28,8 @@ pub fn run() {
     let mut counts = Counts::default();
     for (i, part) in seeds.chunks(per_module as usize).enumerate() {
         let name = format!("CrateTable{i:02}");
-        fs::write(
-            folder.join(format!("{name}.antt")),
-            module(part, &mut counts),
-        )
-        .unwrap();
+        let text = module(part, &mut counts);
+        fs::write(folder.join(format!("{name}.antt")), text).unwrap();
         println!("pub mod {name}");
     }
     println!("{counts}");
@@ -56,14 +54,10 @@ fn rows(history: &History) -> String {
     let (seed, words) = (history.seed, history.words);
     let mut text = format!("\nabbrev h{seed} : History\nh{seed} =\n    on {words} (\n");
     for (i, step) in history.steps.iter().enumerate() {
-        let last = i + 1 == history.steps.len();
-        write!(text, "    {}", if i == 0 { "" } else { "∷ " }).unwrap();
-        writeln!(
-            text,
-            "{}",
-            steps_of(words as u64 * 8, step, last || (i + 1) % LOOK_EVERY == 0)
-        )
-        .unwrap();
+        let look = i + 1 == history.steps.len() || (i + 1) % LOOK_EVERY == 0;
+        let before = if i == 0 { "" } else { "∷ " };
+        let steps = steps_of(words as u64 * 8, step, look);
+        writeln!(text, "    {before}{steps}").unwrap();
     }
     text.push_str("    ∷ [])\n");
     text
@@ -99,11 +93,9 @@ fn call_of(arena_bytes: u64, done: Done) -> String {
 /// The whole heap: chunks, maps, and each bin that holds something.
 fn looks(shot: &Shot) -> Vec<String> {
     let kind = |used| if used { "used" } else { "free" };
-    let chunks = shot
-        .chunks
-        .iter()
-        .map(|c| format!("{} {}", kind(c.used), c.size));
-    let mut all = vec![format!("chunks-are {}", list(chunks))];
+    let chunk = |c: &Chunk| format!("{} {}", kind(c.used), c.size);
+    let chunks = list(shot.chunks.iter().map(chunk));
+    let mut all = vec![format!("chunks-are {chunks}")];
     all.push(format!("maps-are {} {}", shot.maps.0, shot.maps.1));
     for (bin, places) in &shot.small {
         all.push(format!("small-is {bin} {}", numbers(places)));

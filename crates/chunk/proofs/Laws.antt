@@ -4,6 +4,7 @@ use mathlib.Core.Path.{_≡_, refl, sym, ap, _∙_}
 use mathlib.Core.List.{List, [], _∷_}
 use native.Mathlib.Omega.{arith}
 use lib.Dec.{eqb}
+use borrow.Author.Tests.{eq-eqb, ne-eqb}
 use lib.ListN.{getD, set, length}
 use lib.Seq.{set-out}
 use lib.Bits.{bitOr, bitAnd}
@@ -11,7 +12,7 @@ use Rattle.words.specs.Edition.{wide}
 use Rattle.index.specs.Words.{one-shl}
 use Rattle.index.specs.BinMapLaws.{or-marks, and-clears}
 use Rattle.index.specs.BinMap.{mark, clear}
-use Rattle.chunk.specs.Bytes.{wrap, word, put, usedW, topW, freeW, giveW, pinuseW, unpinW, takeW, inuseW, cinuseB, pinuseB, Kind, small, tree, mapAt, markR, clearR}
+use Rattle.chunk.specs.Bytes.{wrap, word, put, usedW, topW, freeW, giveW, pinuseW, unpinW, takeW, inuseW, cinuseB, pinuseB, Kind, small, tree, mapAt, markR, clearR, setLink, enterR, relinkR}
 
 pub get-past : (w : List ℕ) (i : ℕ) → length w ≤ i → 0 ≡ getD w i 0
 get-past [] i l = refl
@@ -75,6 +76,17 @@ module _ (r : List ℕ) (i : ℕ) {x : ℕ} where
   pub clear-tree : x ≡ clear (i % 32) (getD r 1 0) → set r 1 x ≡ clearR tree r i
   clear-tree q = clear-r tree r i q
 
+-- a bin's first member
+module _ (k : Kind) (r : List ℕ) (i v : ℕ) {r₁ r₂ : List ℕ} where
+  pub enter-r : r₁ ≡ markR k r i → r₂ ≡ setLink k r₁ i v → r₂ ≡ enterR k r i v
+  enter-r e₁ e₂ = e₂ ∙ ap (λ z. setLink k z i v) e₁
+
+  pub relink-none : v ≡ 2 ^ 64 - 1 → r₁ ≡ clearR k r i → r₂ ≡ setLink k r₁ i v → r₂ ≡ relinkR wide k r i v
+  relink-none q e₁ e₂ = e₂ ∙ ap (λ z. setLink k z i v) e₁ ∙ sym (rw (eq-eqb v (2 ^ 64 - 1) q) refl)
+
+pub relink-some : (k : Kind) (r : List ℕ) (i v : ℕ) {r₁ : List ℕ} → (v ≡ 2 ^ 64 - 1 → ⊥) → r₁ ≡ setLink k r i v → r₁ ≡ relinkR wide k r i v
+relink-some k r i v n e₁ = e₁ ∙ sym (rw (ne-eqb v (2 ^ 64 - 1) n) refl)
+
 -- the flags
 module _ (w : List ℕ) (c : ℕ) {h : ℕ} where
   pub cinuse-b : h ≡ word wide w c 1 → eqb (h / 2 % 2) 1 ≡ cinuseB wide w c
@@ -83,4 +95,25 @@ module _ (w : List ℕ) (c : ℕ) {h : ℕ} where
   pub pinuse-b : h ≡ word wide w c 1 → eqb (h % 2) 1 ≡ pinuseB wide w c
   pinuse-b q = ap (λ x. eqb (x % 2) 1) q
 
-pub ruleset laws = (get-past, put-past, used-w, top-w, free-w, give-w, take-w, inuse-w, pinuse-w, unpin-w, with-bit, without-bit, mark-small, mark-tree, clear-small, clear-tree, cinuse-b, pinuse-b)
+-- the same at each kind
+module _ (r : List ℕ) (i v : ℕ) {r₁ r₂ : List ℕ} where
+  pub enter-small : r₁ ≡ markR small r i → r₂ ≡ setLink small r₁ i v → r₂ ≡ enterR small r i v
+  enter-small = enter-r small r i v
+
+  pub enter-tree : r₁ ≡ markR tree r i → r₂ ≡ setLink tree r₁ i v → r₂ ≡ enterR tree r i v
+  enter-tree = enter-r tree r i v
+
+  pub relink-small : v ≡ 2 ^ 64 - 1 → r₁ ≡ clearR small r i → r₂ ≡ setLink small r₁ i v → r₂ ≡ relinkR wide small r i v
+  relink-small = relink-none small r i v
+
+  pub relink-tree : v ≡ 2 ^ 64 - 1 → r₁ ≡ clearR tree r i → r₂ ≡ setLink tree r₁ i v → r₂ ≡ relinkR wide tree r i v
+  relink-tree = relink-none tree r i v
+
+module _ (r : List ℕ) (i v : ℕ) {r₁ : List ℕ} where
+  pub relink-small-some : (v ≡ 2 ^ 64 - 1 → ⊥) → r₁ ≡ setLink small r i v → r₁ ≡ relinkR wide small r i v
+  relink-small-some = relink-some small r i v
+
+  pub relink-tree-some : (v ≡ 2 ^ 64 - 1 → ⊥) → r₁ ≡ setLink tree r i v → r₁ ≡ relinkR wide tree r i v
+  relink-tree-some = relink-some tree r i v
+
+pub ruleset laws = (get-past, put-past, used-w, top-w, free-w, give-w, take-w, inuse-w, pinuse-w, unpin-w, with-bit, without-bit, mark-small, mark-tree, clear-small, clear-tree, cinuse-b, pinuse-b, enter-small, enter-tree, relink-small, relink-tree, relink-small-some, relink-tree-some)

@@ -6,7 +6,8 @@ use mathlib.Core.List.{List}
 use Prim.Native.Nat.{ℕ, _+_, _-_, _*_, _/_, _%_, _^_}
 use lib.Dec.{eqb}
 use lib.ListN.{getD, set}
-use Rattle.words.specs.Edition.{Edition, wide, narrow, W}
+use Rattle.words.specs.Logic.{pick}
+use Rattle.words.specs.Edition.{Edition, wide, narrow, W, noLink}
 use Rattle.index.specs.BinMap.{mark, clear}
 
 -- ---- numbers and words
@@ -112,6 +113,13 @@ markR k r i = set r (mapAt k) (mark (i % 32) (getD r (mapAt k) 0))
 
 abbrev pub clearR : Kind → List ℕ → ℕ → List ℕ
 clearR k r i = set r (mapAt k) (clear (i % 32) (getD r (mapAt k) 0))
+
+-- bin i gets a first member; another first member, or none, and then its bit is cleared
+abbrev pub enterR : Kind → List ℕ → ℕ → ℕ → List ℕ
+enterR k r i v = setLink k (markR k r i) i v
+
+abbrev pub relinkR : Edition → Kind → List ℕ → ℕ → ℕ → List ℕ
+relinkR e k r i v = pick (eqb v (noLink e)) (setLink k (clearR k r i) i v) (setLink k r i v)
 
 -- ---- what a step changes: the image and the words
 

@@ -12,13 +12,17 @@ use borrow.Author.Tests.{leb-true, leb-false, ltb-true, ltb-false, le-leb, lt-le
 use lib.ListN.{length, getD}
 use Rattle.words.specs.Logic.{pick, pick-case}
 use Rattle.words.specs.Edition.{Edition, wide, narrow, W, noLink, enc}
-use Rattle.tiling.specs.Tiling.{used, free, endOf, Starts}
+use Rattle.words.specs.Fields.{countL}
+use Rattle.tiling.specs.Tiling.{Chunk, used, free, endOf, lastUse, Heads, Starts}
+use Rattle.tiling.specs.Free.{freeAt}
+use Rattle.tiling.specs.Swaps.{Swap}
 use Rattle.tiling.specs.Steps.{topWords}
 use Rattle.rules.specs.Heap.{Heap, heapDv, heapChunks, heapTiles}
 use Rattle.rules.specs.Binning.{retile, spareWords, dvWords}
 use Rattle.holds.specs.Holds.{Near, SpareAt}
 use Rattle.holds.specs.Ops.{state}
 use Rattle.holds.specs.Bin.{noDv, setDv, set-dv, drop-dv}
+use Rattle.holds.specs.Retile.{swap-near, swap-top}
 use Rattle.holds.specs.Spot.{spot, looked-up}
 use Rattle.holds.specs.Serving.{split-near, take-near, top-near}
 use Rattle.chunk.specs.Bytes as B
@@ -153,3 +157,20 @@ module _ (e : Edition) (r w : List ℕ) (h : Heap) (p s : ℕ) (loose : List ℕ
             (sym (take-plain e w p s (k .next .words) near-end (k .here .least) (ap (λ a. getD w (a + s + 1) 0) (k .place) ∙ k .next .here .head)))
             (take-near e (state (decode r) w) h loose p s (n .near) k);
       }
+
+-- ---- the chunks are told anew: in the middle, and at the end with the top
+
+pub swap-step : (e : Edition) (r w v : List ℕ) (h : Heap) (loose loose′ : List ℕ) (xs mid new ys : List Chunk) → h .chunks ≡ xs ++ (mid ++ ys) → Held e r w h loose → Swap e w v (endOf 0 xs) (lastUse true xs) mid new
+    → ((x : ℕ) → freeAt (endOf 0 xs) mid x ≤ countL x loose) → ((x : ℕ) → countL x loose′ + freeAt (endOf 0 xs) mid x ≡ countL x loose + freeAt (endOf 0 xs) new x)
+    → Held e r v (heapChunks h (xs ++ (new ++ ys))) loose′
+swap-step e r w v h loose loose′ xs mid new ys q n s cov bal = record { image = n .image; near = swap-near e (decode r) w v h loose loose′ xs mid new ys q (n .near) s cov bal }
+
+pub swap-top-step : (e : Edition) (r w v : List ℕ) (h : Heap) (loose loose′ : List ℕ) (xs mid new : List Chunk) (ts : ℕ) → h .chunks ≡ xs ++ mid → Held e r w h loose → length v ≡ length w → Heads e v (xs ++ new) ts
+    → ((i : ℕ) → i ≤ endOf 0 xs → getD v i 0 ≡ getD w i 0)
+    → ((x : ℕ) → freeAt (endOf 0 xs) mid x ≤ countL x loose) → ((x : ℕ) → countL x loose′ + freeAt (endOf 0 xs) mid x ≡ countL x loose + freeAt (endOf 0 xs) new x)
+    → Held e (setTop r (enc e (endOf 0 (xs ++ new))) (enc e ts)) v (heapTiles h (xs ++ new) ts) loose′
+swap-top-step e r w v h loose loose′ xs mid new ts q n l hd lo cov bal = record {
+  image = length-top r (enc e (endOf 0 (xs ++ new))) (enc e ts) (n .image);
+  near = subst (λ c. Near e c v (heapTiles h (xs ++ new) ts) loose′) (sym (decode-top r (enc e (endOf 0 (xs ++ new))) (enc e ts) (n .image)))
+      (swap-top e (decode r) w v h loose loose′ xs mid new ts q (n .near) l hd lo cov bal);
+}

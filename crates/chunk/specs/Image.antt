@@ -1,13 +1,17 @@
 -- The record's image says a control record: reads of its 72 numbers are its fields, writes are its updates. Assumes nothing.
 use mathlib.Core.Path.{_≡_, refl, sym, _∙_, ap}
 use mathlib.Core.List.{List, [], _∷_}
-use Prim.Native.Nat.{ℕ, zero, suc, _+_, _≤_, _<_}
+use Prim.Native.Nat.{ℕ, zero, suc, _+_, _%_, _≤_, _<_}
 use native.Mathlib.Omega.{arith}
+use lib.Dec.{eqb}
 use lib.ListN.{length, getD, set, take, drop, length-set}
-use lib.Seq.{getD-set-other, drop-set-lt, take-set-le, take-set-lt, drop-set-add, getD-take}
+use lib.Seq.{getD-set-other, drop-set-lt, take-set-le, take-set-lt, drop-set-add, getD-take, set-getD}
 use Rattle.holds.specs.Holds.{Control}
-use Rattle.holds.specs.Ops.{withDv, withTop, withSmall, withTrees}
-use Rattle.chunk.specs.Bytes.{setDv, setTop, Kind, small, tree, mapAt, linkAt}
+use Rattle.words.specs.Logic.{pick, pick-case, by}
+use Rattle.words.specs.Edition.{Edition, noLink}
+use Rattle.index.specs.BinMap.{mark, clear}
+use Rattle.holds.specs.Ops.{unmark, withDv, withTop, withSmall, withTrees}
+use Rattle.chunk.specs.Bytes.{setDv, setTop, Kind, small, tree, mapAt, linkAt, enterR, relinkR}
 
 -- 32 numbers from the k-th on
 abbrev pub part : ℕ → List ℕ → List ℕ
@@ -97,6 +101,12 @@ unfolding decode
 get-map small r = refl
 get-map tree r = refl
 
+-- nothing is another
+pub decode-same : (k : Kind) (r : List ℕ) → withBins k (decode r) (filled k (decode r)) (links k (decode r)) ≡ decode r
+unfolding decode
+decode-same small r = refl
+decode-same tree r = refl
+
 -- the scalars
 pub decode-is : (r : List ℕ) → (getD r 2 0 ≡ (decode r) .dv) × (getD r 3 0 ≡ (decode r) .dvSize) × (getD r 4 0 ≡ (decode r) .top) × (getD r 5 0 ≡ (decode r) .topSize) × (getD r 6 0 ≡ (decode r) .length)
 unfolding decode
@@ -125,3 +135,28 @@ decode-bins tree r i m v l q =
   where
     before : part 8 (set (set r 1 m) (40 + i) v) ≡ part 8 (set r 1 m)
     before = ap (λ k. part 8 (set (set r 1 m) k v)) (let q : 40 + i ≡ 8 + (32 + i) = omega arith in q) ∙ part-over 8 (32 + i) v (set r 1 m) (omega arith)
+
+-- a bin's first member is entered, is another
+module _ (k : Kind) (r : List ℕ) (i v : ℕ) (l : i < 32) (q : length r ≡ 72) where
+  abbrev own : i % 32 ≡ i
+  own = omega arith
+
+  pub decode-enter : decode (enterR k r i v) ≡ withBins k (decode r) (mark i (filled k (decode r))) (set (links k (decode r)) i v)
+  decode-enter =
+      ap (λ j. decode (set (set r (mapAt k) (mark j (getD r (mapAt k) 0))) (linkAt k j) v)) own
+      ∙ ap (λ m. decode (set (set r (mapAt k) (mark i m)) (linkAt k i) v)) (get-map k r) ∙ decode-bins k r i (mark i (filled k (decode r))) v l q
+
+  pub decode-relink : (e : Edition) → decode (relinkR e k r i v) ≡ withBins k (decode r) (unmark e i v (filled k (decode r))) (set (links k (decode r)) i v)
+  decode-relink e =
+      ap (λ j. decode (pick (eqb v (noLink e)) (set (set r (mapAt k) (clear j (getD r (mapAt k) 0))) (linkAt k j) v) (set r (linkAt k j) v))) own
+      ∙ by (λ b. decode (pick b (set (set r (mapAt k) (clear i (getD r (mapAt k) 0))) (linkAt k i) v) (set r (linkAt k i) v))
+            ≡ withBins k (decode r) (pick b (clear i (filled k (decode r))) (filled k (decode r))) (set (links k (decode r)) i v)) (eqb v (noLink e))
+          (λ _. ap (λ m. decode (set (set r (mapAt k) (clear i m)) (linkAt k i) v)) (get-map k r) ∙ decode-bins k r i (clear i (filled k (decode r))) v l q)
+          (λ _. ap (λ z. decode (set z (linkAt k i) v)) (sym (set-getD r (mapAt k) 0)) ∙ ap (λ m. decode (set (set r (mapAt k) m) (linkAt k i) v)) (get-map k r)
+            ∙ decode-bins k r i (filled k (decode r)) v l q)
+
+  pub length-enter : length (enterR k r i v) ≡ 72
+  length-enter = simp length-set q
+
+  pub length-relink : (e : Edition) → length (relinkR e k r i v) ≡ 72
+  length-relink e = pick-case (λ z. length z ≡ 72) (eqb v (noLink e)) (λ _. simp length-set q) (λ _. simp length-set q)

@@ -4,3 +4,4 @@ pub mod Image
 pub mod Plain
 pub mod PlainInuse
 pub mod Held
+pub mod PlainLinks

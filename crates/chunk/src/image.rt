@@ -5,7 +5,7 @@ ghost use Prim.Native.Nat.{_%_};
 ghost use lib.ListN.{getD};
 ghost use Rattle.index.specs.BinMap.{mark, clear};
 ghost use Rattle.words.specs.Edition.{wide, noLink};
-ghost use Rattle.chunk.specs.Bytes.{setDv, setTop, Kind, small, tree, mapOf, linkOf, setLink, markR, clearR};
+ghost use Rattle.chunk.specs.Bytes.{setDv, setTop, Kind, small, tree, mapOf, linkOf, setLink, markR, clearR, enterR, relinkR};
 use crate::access::ChunkOff;
 use crate::access::NONE;
 
@@ -126,4 +126,42 @@ pub fn set_top(r: &mut [u64; 72], c: ChunkOff, n: u64)
 {
     r[TOP] = c.0;
     r[TOPSIZE] = n;
+}
+
+// A bin gets a first member.
+pub fn enter_smallbin(r: &mut [u64; 72], i: u32, c: ChunkOff)
+    ensures { λ x. ⌜ now (r .exit) ≡ enterR small (now (r .entry)) i (c .0) ⌝ }
+{
+    mark_smallmap(r, i);
+    set_smallbin(r, i, c);
+}
+
+pub fn enter_treebin(r: &mut [u64; 72], i: u32, c: ChunkOff)
+    ensures { λ x. ⌜ now (r .exit) ≡ enterR tree (now (r .entry)) i (c .0) ⌝ }
+{
+    mark_treemap(r, i);
+    set_treebin(r, i, c);
+}
+
+// A bin gets another first member, or none: then its bit is cleared.
+pub fn relink_smallbin(r: &mut [u64; 72], i: u32, c: ChunkOff)
+    ensures { λ x. ⌜ now (r .exit) ≡ relinkR wide small (now (r .entry)) i (c .0) ⌝ }
+{
+    if c.0 == NONE {
+        clear_smallmap(r, i);
+        set_smallbin(r, i, c);
+    } else {
+        set_smallbin(r, i, c);
+    }
+}
+
+pub fn relink_treebin(r: &mut [u64; 72], i: u32, c: ChunkOff)
+    ensures { λ x. ⌜ now (r .exit) ≡ relinkR wide tree (now (r .entry)) i (c .0) ⌝ }
+{
+    if c.0 == NONE {
+        clear_treemap(r, i);
+        set_treebin(r, i, c);
+    } else {
+        set_treebin(r, i, c);
+    }
 }

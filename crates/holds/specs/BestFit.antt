@@ -38,6 +38,7 @@ use Rattle.holds.specs.FirstBin.{first-is}
 pub record Fits (e : Edition) (h : Heap) (i nb : ℕ) (c : Cand) : Type 0 where
   pub found : ltb (c .size) huge ≡ true
   pub large : nb ≤ c .size
+  pub tall : 256 ≤ W e * c .size
   pub starts : Starts 0 (h .chunks) (c .at) (free (c .size))
   pub not-dv : inDv (h .dv) (c .at) ≡ 0
   pub least : (j : ℕ) → i ≤ j → j < 32 → All (λ s. nb ≤ s → c .size ≤ s) (getD (h .tries) j leaf)
@@ -77,6 +78,7 @@ module _ (e : Edition) (t : State) (h : Heap) (n : Says e t h []) where
       record {
         found = lt-ltb (c .size) huge (below (c .size) (size-bound e (t .ctl) (t .words) h [] n (c .at) (c .size) st));
         large = fit;
+        tall = omega (arith, ap (λ s. W e * s) q, trie-least e i (m .0) (m .2) .0);
         starts = st;
         not-dv = omega (arith, once e (t .ctl) (t .words) h [] n (c .at), a .0, sum-at (count (c .at)) leaf (h .tries) i (omega (arith, n .tries .marks .count)));
         least = ls;
@@ -179,6 +181,7 @@ module _ (e : Edition) (t : State) (h : Heap) (n : Says e t h []) where
           record {
             found = f .found;
             large = f .large;
+            tall = f .tall;
             starts = f .starts;
             not-dv = f .not-dv;
             least = λ j _ k. ⊎-elim (λ u. f .least j u k)
@@ -202,7 +205,7 @@ module _ (e : Edition) (t : State) (h : Heap) (n : Says e t h []) where
 
   -- ---- a small need: every trie's sizes are above it
 
-  small-low : (nb : ℕ) → W e * nb < 256 → (j : ℕ) → nb ≤ trieLow e j
+  pub small-low : (nb : ℕ) → W e * nb < 256 → (j : ℕ) → nb ≤ trieLow e j
   small-low nb s j = words e (trie-least e j (trieLow e j) (omega arith, omega (arith, wid-pos (trieBits e j))) .0) s
     where
       words : (e : Edition) {x : ℕ} → 256 ≤ W e * x → W e * nb < 256 → nb ≤ x

@@ -1,48 +1,24 @@
--- What the rules' lookups by place give, on a tiling that the words have. Assumes nothing.
-use mathlib.Core.Path.{_≡_, refl, ap}
+-- A held heap is tidy; what follows a free chunk; the right part of a tiling. Assumes nothing.
+use mathlib.Core.Path.{_≡_, refl}
 use mathlib.Core.Bool.{Bool, true, false}
 use mathlib.Core.List.{List, [], _∷_, _++_}
-use mathlib.Core.Option.{some}
 use Prim.Native.Nat.{ℕ, _+_, _<_}
 use native.Mathlib.Omega.{arith}
-use lib.Dec.{eqb}
-use borrow.Author.Tests.{ne-eqb}
 use lib.ListN.{length}
 use Rattle.words.specs.Edition.{Edition}
-use Rattle.words.specs.Fields.{self}
 use Rattle.words.specs.Logic.{false-true}
-use Rattle.tiling.specs.Tiling.{Chunk, used, free, size, inUse, endOf, lastUse, UsedAt, Run, HeadsFrom, end-ge, least-of}
-use Rattle.rules.specs.Binning.{sizeAt, retile}
-use Rattle.rules.specs.Free.{find, found, behind, behindFree}
+use Rattle.rules.specs.Heap.{Heap}
+use Rattle.rules.specs.Tidy.{Tidy, TidyHeap}
+use Rattle.tiling.specs.Tiling.{Chunk, used, free, size, inUse, endOf, lastUse, UsedAt, Run, HeadsFrom, end-ge, Heads}
 
-module _ (e : Edition) (w : List ℕ) where
-  later : (a : ℕ) (pu : Bool) (x : Chunk) (xs : List Chunk) (zs : List Chunk) → Run e w a pu (x ∷ (xs ++ zs)) → eqb (endOf (a + size x) xs) a ≡ false
-  later a pu x xs zs h = ne-eqb (endOf (a + size x) xs) a (λ z. omega (arith, end-ge (a + size x) xs, least-of e w a pu x (h .0)))
+-- a run of chunks is tidy, and so is a held heap: what the rules keep of the chunks
+pub run-tidy : (e : Edition) (w : List ℕ) (p : ℕ) (pu : Bool) (cs : List Chunk) → Run e w p pu cs → Tidy pu cs
+run-tidy e w p pu [] h = tt
+run-tidy e w p pu (used s ∷ cs) h = (h .0 .even, h .0 .least, run-tidy e w (p + s) true cs (h .1))
+run-tidy e w p pu (free s ∷ cs) h = (h .0 .apart, h .0 .even, h .0 .least, run-tidy e w (p + s) false cs (h .1))
 
-  pub retile-at : (a : ℕ) (pu : Bool) (xs : List Chunk) (c : Chunk) (ys new : List Chunk) → Run e w a pu (xs ++ (c ∷ ys)) → retile a (xs ++ (c ∷ ys)) (endOf a xs) new ≡ xs ++ (new ++ ys)
-  retile-at a pu [] c ys new h = rw (self a)
-  retile-at a pu (x ∷ xs) c ys new h = rw (later a pu x xs (c ∷ ys) h) (ap (λ z. x ∷ z) (retile-at (a + size x) (inUse x) xs c ys new (h .1)))
-
-  pub size-at : (a : ℕ) (pu : Bool) (xs : List Chunk) (c : Chunk) (ys : List Chunk) → Run e w a pu (xs ++ (c ∷ ys)) → sizeAt a (xs ++ (c ∷ ys)) (endOf a xs) ≡ size c
-  size-at a pu [] c ys h = rw (self a)
-  size-at a pu (x ∷ xs) c ys h = rw (later a pu x xs (c ∷ ys) h) (size-at (a + size x) (inUse x) xs c ys (h .1))
-
-  -- a used chunk after one in use, or first
-  pub find-plain : (a : ℕ) (pu : Bool) (xs : List Chunk) (s : ℕ) (ys : List Chunk) → Run e w a pu (xs ++ (used s ∷ ys)) → lastUse true xs ≡ true
-      → find a (xs ++ (used s ∷ ys)) (endOf a xs) ≡ some (found xs 0 s ys)
-  find-plain a pu [] s ys h l = rw (self a)
-  find-plain a pu (used t ∷ xs) s ys h l = rw (later a pu (used t) xs (used s ∷ ys) h) (ap (behind (used t)) (find-plain (a + t) true xs s ys (h .1) l))
-  find-plain a pu (free t ∷ []) s ys h l = false-true l
-  find-plain a pu (free t ∷ x ∷ xs) s ys h l = ap (behindFree t) (find-plain (a + t) false (x ∷ xs) s ys (h .1) l)
-
-  -- a used chunk after a free one
-  pub find-back : (a : ℕ) (pu : Bool) (xs : List Chunk) (b s : ℕ) (ys : List Chunk) → Run e w a pu (xs ++ (free b ∷ used s ∷ ys))
-      → find a (xs ++ (free b ∷ used s ∷ ys)) (endOf a xs + b) ≡ some (found xs b s ys)
-  find-back a pu [] b s ys h = rw (self (a + b))
-  find-back a pu (used t ∷ xs) b s ys h =
-      rw (ne-eqb (endOf (a + t) xs + b) a (λ z. omega (arith, end-ge (a + t) xs, h .0 .least))) (ap (behind (used t)) (find-back (a + t) true xs b s ys (h .1)))
-  find-back a pu (free t ∷ []) b s ys h = false-true (h .1 .0 .apart)
-  find-back a pu (free t ∷ x ∷ xs) b s ys h = ap (behindFree t) (find-back (a + t) false (x ∷ xs) b s ys (h .1))
+pub heads-tidy : (e : Edition) (w : List ℕ) (h : Heap) → Heads e w (h .chunks) (h .top) → TidyHeap h
+heads-tidy e w h a = record { chunks = run-tidy e w 0 true (h .chunks) (a .run); last = a .top .apart; top-even = a .top .even; top-least = a .top .least }
 
 -- a free chunk stands before one in use
 pub record NextUsed (e : Edition) (w : List ℕ) (a s : ℕ) (ys : List Chunk) (l : ℕ) : Type 0 where

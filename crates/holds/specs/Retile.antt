@@ -2,22 +2,23 @@
 -- spare chunk lie elsewhere and stay. One law for the middle, one for the end at the top. Assumes nothing.
 use mathlib.Core.Path.{_≡_, refl, sym, _∙_, ap, subst}
 use mathlib.Core.Bool.{true}
-use mathlib.Core.List.{List, [], _∷_, _++_}
+use mathlib.Core.List.{List, [], _++_}
 use mathlib.Core.Option.{Option, none, some}
-use mathlib.Core.Logic.{_⊎_, inl, inr, ⊎-elim}
+use mathlib.Core.Logic.{⊎-elim}
 use Prim.Native.Nat.{ℕ, _+_, _*_, _≤_, _<_}
 use native.Mathlib.Omega.{arith}
 use lib.ListN.{length, getD}
 use Rattle.words.specs.Edition.{Edition, W, enc}
 use Rattle.words.specs.Fields.{fld, ind-self, countL}
 use Rattle.words.specs.Places.{AgreeTo}
-use Rattle.tiling.specs.Tiling.{Chunk, free, size, endOf, lastUse, Run, Heads, Starts, starts-in, end-append, run-left, run-right}
+use Rattle.tiling.specs.Tiling.{Chunk, free, endOf, lastUse, Run, Heads, Starts, starts-in, end-append, run-left, run-right}
 use Rattle.tiling.specs.Free.{freeAt, free-append, starts-free, Roomy}
 use Rattle.tiling.specs.Swaps.{Swap, swap-heads}
 use Rattle.lists.specs.Links.{keep-list}
 use Rattle.tries.specs.Tree.{leaf, count}
 use Rattle.tries.specs.TreeAt.{link}
 use Rattle.rules.specs.BinOf.{binSize}
+use Rattle.rules.specs.Tidy.{starts-left, starts-right, starts-parts}
 use Rattle.rules.specs.Heap.{Heap, holdsSome, growsSome, heapTiles, heapChunks}
 use Rattle.holds.specs.Bins.{bins-keep, sum-at}
 use Rattle.holds.specs.Holds.{Control, Near, SpareAt, SmallAt, TrieAt, headLink, inDv}
@@ -25,22 +26,6 @@ use Rattle.holds.specs.Unique.{once}
 use Rattle.holds.specs.Where.{small-roomy, trie-roomy}
 use Rattle.holds.specs.Frame.{keep-trie}
 use Rattle.holds.specs.Ops.{withTop}
-
--- ---- chunks of a list in parts
-
-pub starts-left : (p : ℕ) (xs ys : List Chunk) (x : ℕ) (c : Chunk) → Starts p xs x c → Starts p (xs ++ ys) x c
-starts-left p [] ys x c h = absurd h
-starts-left p (d ∷ xs) ys x c (inl h) = inl h
-starts-left p (d ∷ xs) ys x c (inr h) = inr (starts-left (p + size d) xs ys x c h)
-
-pub starts-right : (p : ℕ) (xs ys : List Chunk) (x : ℕ) (c : Chunk) → Starts (endOf p xs) ys x c → Starts p (xs ++ ys) x c
-starts-right p [] ys x c h = h
-starts-right p (d ∷ xs) ys x c h = inr (starts-right (p + size d) xs ys x c h)
-
-pub starts-parts : (p : ℕ) (xs ys : List Chunk) (x : ℕ) (c : Chunk) → Starts p (xs ++ ys) x c → Starts p xs x c ⊎ Starts (endOf p xs) ys x c
-starts-parts p [] ys x c h = inr h
-starts-parts p (d ∷ xs) ys x c (inl h) = inl (inl h)
-starts-parts p (d ∷ xs) ys x c (inr h) = ⊎-elim (λ z. inl (inr z)) (λ z. inr z) (starts-parts (p + size d) xs ys x c h)
 
 -- ---- the general step
 

@@ -17,14 +17,16 @@ use Rattle.rules.specs.Heap.{Heap, heapChunks, heapTiles}
 use Rattle.rules.specs.Binning.{retile}
 use Rattle.holds.specs.Holds.{Near}
 use Rattle.holds.specs.Ops.{State, withTop}
-use Rattle.holds.specs.Retile.{swap-near, swap-top, starts-right}
+use Rattle.holds.specs.Retile.{swap-near, swap-top}
 use Rattle.holds.specs.Bin.{Says}
-use Rattle.holds.specs.Lookup.{retile-at, NextUsed}
+use Rattle.holds.specs.Lookup.{run-tidy, NextUsed}
+use Rattle.rules.specs.Lookup.{retile-at}
+use Rattle.rules.specs.Tidy.{starts-right}
 use Rattle.holds.specs.Spot.{Spot}
 
 module _ (e : Edition) (t : State) (h : Heap) (loose : List ℕ) (p s : ℕ) (n : Says e t h (p ∷ loose)) (k : Spot e (t .words) h p s) where
   retiled : (new : List Chunk) → retile 0 (h .chunks) p new ≡ k .xs ++ (new ++ k .ys)
-  retiled new = ap (λ c. retile 0 c p new) (k .whole) ∙ ap (λ q. retile 0 (k .xs ++ (free s ∷ k .ys)) q new) (k .place) ∙ retile-at e (t .words) 0 true (k .xs) (free s) (k .ys) new (k .run)
+  retiled new = ap (λ c. retile 0 c p new) (k .whole) ∙ ap (λ q. retile 0 (k .xs ++ (free s ∷ k .ys)) q new) (k .place) ∙ retile-at 0 true (k .xs) (free s) (k .ys) new (run-tidy e (t .words) 0 true (k .xs ++ (free s ∷ k .ys)) (k .run))
 
   pub split-near : (nb r : ℕ) → s ≡ nb + r → nb % 2 ≡ 0 → 4 ≤ nb → 4 ≤ r
       → Near e (t .ctl) (splitWords e (t .words) p nb r) (heapChunks h (retile 0 (h .chunks) p (used nb ∷ free r ∷ []))) ((p + nb) ∷ loose) × Starts 0 (retile 0 (h .chunks) p (used nb ∷ free r ∷ [])) (p + nb) (free r)

@@ -1,19 +1,18 @@
--- A free chunk of a held heap with what stands around it, the size that a lookup by its place gives, and what binning leaves alone.
+-- A free chunk of a held heap with what stands around it, and the size that a lookup by its place gives.
 -- Assumes nothing.
-use mathlib.Core.Path.{_≡_, refl, _∙_, ap, subst}
+use mathlib.Core.Path.{_≡_, _∙_, ap, subst}
 use mathlib.Core.Bool.{true}
 use mathlib.Core.List.{List, _∷_, _++_}
 use Prim.Native.Nat.{ℕ}
 use lib.ListN.{length}
 use Rattle.words.specs.Edition.{Edition}
-use Rattle.words.specs.Logic.{pick-case}
 use Rattle.tiling.specs.Tiling.{Chunk, free, endOf, lastUse, FreeAt, Run, Heads, Starts, Split, starts-split}
-use Rattle.rules.specs.BinOf.{isSmall}
 use Rattle.rules.specs.Heap.{Heap}
-use Rattle.rules.specs.Binning.{bin, unbin, sizeAt}
+use Rattle.rules.specs.Binning.{sizeAt}
 use Rattle.holds.specs.Ops.{State}
 use Rattle.holds.specs.Bin.{Says}
-use Rattle.holds.specs.Lookup.{size-at, next-used, NextUsed, heads-right}
+use Rattle.holds.specs.Lookup.{run-tidy, next-used, NextUsed, heads-right}
+use Rattle.rules.specs.Lookup.{size-at}
 
 -- a free chunk of the heap, with what stands around it
 pub record Spot (e : Edition) (w : List ℕ) (h : Heap) (p s : ℕ) : Type 0 where
@@ -46,12 +45,4 @@ spot e t h loose p s n st = go (starts-split 0 (h .chunks) p (free s) st)
 pub looked-up : (e : Edition) (t : State) (h : Heap) (loose : List ℕ) (p s : ℕ) → Says e t h loose → Starts 0 (h .chunks) p (free s) → sizeAt 0 (h .chunks) p ≡ s
 looked-up e t h loose p s n st =
     let k = spot e t h loose p s n st in
-    ap (λ c. sizeAt 0 c p) (k .whole) ∙ ap (sizeAt 0 (k .xs ++ (free s ∷ k .ys))) (k .place) ∙ size-at e (t .words) 0 true (k .xs) (free s) (k .ys) (k .run)
-
--- binning leaves the chunks and the spare chunk
-pub bin-leaves : (e : Edition) (h : Heap) (q s : ℕ) → ((bin e h q s) .chunks ≡ h .chunks) × ((bin e h q s) .dv ≡ h .dv) × ((bin e h q s) .top ≡ h .top)
-bin-leaves e h q s = pick-case (λ (g : Heap). (g .chunks ≡ h .chunks) × (g .dv ≡ h .dv) × (g .top ≡ h .top)) (isSmall e s) (λ _. (refl, refl, refl)) (λ _. (refl, refl, refl))
-
-pub unbin-leaves : (e : Edition) (h : Heap) (q s : ℕ) → ((unbin e h q s) .chunks ≡ h .chunks) × ((unbin e h q s) .dv ≡ h .dv) × ((unbin e h q s) .top ≡ h .top)
-unbin-leaves e h q s = pick-case (λ (g : Heap). (g .chunks ≡ h .chunks) × (g .dv ≡ h .dv) × (g .top ≡ h .top)) (isSmall e s) (λ _. (refl, refl, refl)) (λ _. (refl, refl, refl))
-
+    ap (λ c. sizeAt 0 c p) (k .whole) ∙ ap (sizeAt 0 (k .xs ++ (free s ∷ k .ys))) (k .place) ∙ size-at 0 true (k .xs) (free s) (k .ys) (run-tidy e (t .words) 0 true (k .xs ++ (free s ∷ k .ys)) (k .run))

@@ -9,3 +9,14 @@ pub mod Memalign
 pub mod Calls
 pub mod Morning
 pub mod Source
+pub mod Tidy
+pub mod Lookup
+pub mod Blocks
+pub mod Splice
+pub mod Leaves
+pub mod MallocLaws
+pub mod FreeLaws
+pub mod Cutting
+pub mod ReallocLaws
+pub mod MemalignLaws
+pub mod Slips

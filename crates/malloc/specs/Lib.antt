@@ -1,0 +1,4 @@
+-- malloc: the words level, and that it follows the rule.
+pub mod MallocBytes
+pub mod MallocObeys
+pub mod MallocFollows

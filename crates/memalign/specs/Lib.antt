@@ -1,0 +1,3 @@
+-- memalign: the words level, and that it follows the rule.
+pub mod MemalignBytes
+pub mod MemalignObeys

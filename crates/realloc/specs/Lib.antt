@@ -1,0 +1,4 @@
+-- realloc: the words level, and that it follows the rule.
+pub mod ReallocBytes
+pub mod ReallocObeys
+pub mod ReallocFollows

@@ -1,0 +1,3 @@
+-- Small bins: the words level, and that its steps keep what is held.
+pub mod SmallBytes
+pub mod SmallSteps

@@ -1,0 +1,3 @@
+-- The check: the words level.
+pub mod Marks
+pub mod SoundBytes

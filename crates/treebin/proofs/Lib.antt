@@ -1,0 +1,4 @@
+pub mod InsertLaws
+pub mod UnlinkLaws
+pub mod SearchLaws
+pub mod BinsLaws
