@@ -142,11 +142,13 @@ module _ (e : Edition) (r w : List ℕ) (h : Heap) (p s : ℕ) (loose : List ℕ
       × Starts 0 (retile 0 (h .chunks) p (used nb ∷ free (s - nb) ∷ [])) (p + nb) (free (s - nb))
   split-step nb v l fit =
       let k = spot e (state (decode r) w) h (p ∷ loose) p s (n .near) st in
-      let g = split-near e (state (decode r) w) h loose p s (n .near) k nb (s - nb) (omega arith) v l (omega arith) in
-      (record {
-        image = n .image;
-        near = subst (λ x. Near e (decode r) x (heapChunks h (retile 0 (h .chunks) p (used nb ∷ free (s - nb) ∷ []))) ((p + nb) ∷ loose)) (sym (split-plain e w p nb (s - nb) (omega (arith, near-end)))) (g .0);
-      }, g .1)
+      let g = split-near e (state (decode r) w) h loose p s (n .near) k nb (s - nb) (omega arith) v l (omega arith) in (
+        record {
+          image = n .image;
+          near = subst (λ x. Near e (decode r) x (heapChunks h (retile 0 (h .chunks) p (used nb ∷ free (s - nb) ∷ []))) ((p + nb) ∷ loose)) (sym (split-plain e w p nb (s - nb) (omega (arith, near-end)))) (g .0);
+        },
+        g .1,
+      )
 
   pub take-step : Held e r (takeW e w (enc e p) (enc e s)) (heapChunks h (retile 0 (h .chunks) p (used s ∷ []))) loose
   take-step =

@@ -150,10 +150,10 @@ module _ (k : Kind) (r : List ℕ) (i v : ℕ) (l : i < 32) (q : length r ≡ 72
   decode-relink e =
       ap (λ j. decode (pick (eqb v (noLink e)) (set (set r (mapAt k) (clear j (getD r (mapAt k) 0))) (linkAt k j) v) (set r (linkAt k j) v))) own
       ∙ by (λ b. decode (pick b (set (set r (mapAt k) (clear i (getD r (mapAt k) 0))) (linkAt k i) v) (set r (linkAt k i) v))
-            ≡ withBins k (decode r) (pick b (clear i (filled k (decode r))) (filled k (decode r))) (set (links k (decode r)) i v)) (eqb v (noLink e))
-          (λ _. ap (λ m. decode (set (set r (mapAt k) (clear i m)) (linkAt k i) v)) (get-map k r) ∙ decode-bins k r i (clear i (filled k (decode r))) v l q)
-          (λ _. ap (λ z. decode (set z (linkAt k i) v)) (sym (set-getD r (mapAt k) 0)) ∙ ap (λ m. decode (set (set r (mapAt k) m) (linkAt k i) v)) (get-map k r)
-            ∙ decode-bins k r i (filled k (decode r)) v l q)
+      ≡ withBins k (decode r) (pick b (clear i (filled k (decode r))) (filled k (decode r))) (set (links k (decode r)) i v)) (eqb v (noLink e))
+      (λ _. ap (λ m. decode (set (set r (mapAt k) (clear i m)) (linkAt k i) v)) (get-map k r) ∙ decode-bins k r i (clear i (filled k (decode r))) v l q)
+      (λ _. ap (λ z. decode (set z (linkAt k i) v)) (sym (set-getD r (mapAt k) 0)) ∙ ap (λ m. decode (set (set r (mapAt k) m) (linkAt k i) v)) (get-map k r)
+      ∙ decode-bins k r i (filled k (decode r)) v l q)
 
   pub length-enter : length (enterR k r i v) ≡ 72
   length-enter = simp length-set q

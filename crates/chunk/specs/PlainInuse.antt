@@ -62,7 +62,7 @@ module _ (e : Edition) (w : List ℕ) (a nb r : ℕ) (ln : 4 ≤ nb) (lr : 1 ≤
   split-used-plain q =
       ap (λ v. inuseW e v (enc e (a + nb)) (enc e r)) first-is ∙ inuse-plain e first (a + nb) r lr l
       ∙ same-value (set first (a + nb + 1) (keptHead e first (a + nb) r)) (a + nb + r + 1) (getD first (a + nb + r + 1) 0 / 2 * 2 + 1)
-          (odd (getD first (a + nb + r + 1) 0) (ap (λ h. h % 2) far ∙ q) ∙ sym (getD-set-other first (a + nb + 1) (a + nb + r + 1) (keptHead e first (a + nb) r) 0 (λ z. omega arith)))
+      (odd (getD first (a + nb + r + 1) 0) (ap (λ h. h % 2) far ∙ q) ∙ sym (getD-set-other first (a + nb + 1) (a + nb + r + 1) (keptHead e first (a + nb) r) 0 (λ z. omega arith)))
       ∙ set-set (set w (a + 1) (keptHead e w a nb)) (a + nb + 1) (getD w (a + nb + 1) 0 / 2 * 2 + 1) (keptHead e first (a + nb) r)
       ∙ ap (set (set w (a + 1) (keptHead e w a nb)) (a + nb + 1)) (ap (λ h. W e * r + 2 + h % 2) here ∙ flags (getD w (a + nb + 1) 0))
     where
@@ -114,7 +114,7 @@ pub lead-plain : (e : Edition) (w : List ℕ) (a k r : ℕ) → 4 ≤ k → 1 �
 lead-plain e w a k r lk lr l fits q =
     ap (λ v. inuseW e v (enc e a) (enc e k)) one ∙ inuse-plain e x a k (omega arith) (omega arith)
     ∙ ap₂ (λ u v. set (set x (a + 1) (W e * k + 2 + u % 2)) (a + k + 1) (v / 2 * 2 + 1))
-          (getD-set-other w (a + k + 1) (a + 1) (keptHead e w (a + k) r) 0 (λ z. omega arith)) (getD-set-same w (a + k + 1) (keptHead e w (a + k) r) 0 fits)
+    (getD-set-other w (a + k + 1) (a + 1) (keptHead e w (a + k) r) 0 (λ z. omega arith)) (getD-set-same w (a + k + 1) (keptHead e w (a + k) r) 0 fits)
     ∙ ap (λ v. set v (a + k + 1) (keptHead e w (a + k) r / 2 * 2 + 1)) (set-comm w (a + k + 1) (a + 1) (keptHead e w (a + k) r) (keptHead e w a k) (λ z. omega arith))
     ∙ set-set (set w (a + 1) (keptHead e w a k)) (a + k + 1) (keptHead e w (a + k) r) (keptHead e w (a + k) r / 2 * 2 + 1)
     ∙ ap (set (set w (a + 1) (keptHead e w a k)) (a + k + 1)) (flags e (getD w (a + k + 1) 0))

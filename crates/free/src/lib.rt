@@ -67,7 +67,14 @@ fn join_binned(r: &mut [u64; 72], w: &mut [u64], p: ChunkOff, n: u64, next: Chun
 }
 
 // p is merged with what lies before it: now what lies after.
-fn dispose_forward(r: &mut [u64; 72], w: &mut [u64], p: ChunkOff, n: u64, next: ChunkOff, mine: bool)
+fn dispose_forward(
+    r: &mut [u64; 72],
+    w: &mut [u64],
+    p: ChunkOff,
+    n: u64,
+    next: ChunkOff,
+    mine: bool,
+)
     ensures image { λ x. ⌜ now (r .exit) ≡ forwardB wide mine (now (r .entry)) (now (w .entry)) (p .0) n (next .0) .image ⌝ }
     ensures words { λ x. ⌜ now (w .exit) ≡ forwardB wide mine (now (r .entry)) (now (w .entry)) (p .0) n (next .0) .words ⌝ }
 {

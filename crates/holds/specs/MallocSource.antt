@@ -71,7 +71,7 @@ module _ (e : Edition) (t : State) (h : Heap) (n : Says e t h []) (nb : ℕ) whe
       by-size z false q =
           let i = trie-index e (t .ctl) (t .words) h [] n x s st q in
           let m = member-at e (fld (t .words)) (trieBin e s) (rootMark e) (λ y. y < nb) x (getD (h .tries) (trieBin e s) leaf)
-              (in-trie e (t .ctl) (t .words) h [] n x s st (omega arith) q) (tries (trieBin e s) (i .0)) (n .tries .at (trieBin e s) (i .0) .tree) in
+          (in-trie e (t .ctl) (t .words) h [] n x s st (omega arith) q) (tries (trieBin e s) (i .0)) (n .tries .at (trieBin e s) (i .0) .tree) in
           subst (λ y. y < nb) (enc-inj e (m .0) s (omega (arith, m .1, free-head e (t .ctl) (t .words) h [] n x s st .0))) (m .2)
 
       spare : (d : Option ℕ) → (inDv d x ≡ 0 → ⊥) → SpareAt e (t .ctl .dv) (t .ctl .dvSize) (h .chunks) d → spareWords (h .chunks) d < nb → s < nb

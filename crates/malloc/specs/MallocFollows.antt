@@ -76,9 +76,11 @@ module _ (e : Edition) (r w : List ℕ) (h : Heap) (n : Held e r w h []) (nb : �
     unfolding takeSmall
     small-obeys u =
         rw (lt-leb 4 (binSize e j - nb) (omega arith))
-        (subst (λ p. Obeys e r w (reply p (unlinkFirst e r w p j .image) (takeW e (unlinkFirst e r w p j .words) p (8 * j))) (some (grant x taken))) (sym link-is)
-        (refl, subst (λ k. Held e (unlinkFirst e r w (enc e x) j .image) (takeW e (unlinkFirst e r w (enc e x) j .words) (enc e x) k) taken []) (small-is e j .0)
-        (take-step e (unlinkFirst e r w (enc e x) j .image) (unlinkFirst e r w (enc e x) j .words) (unbin e h x (binSize e j)) x (binSize e j) [] there loose)))
+        (subst (λ p. Obeys e r w (reply p (unlinkFirst e r w p j .image) (takeW e (unlinkFirst e r w p j .words) p (8 * j))) (some (grant x taken))) (sym link-is) (
+          refl,
+          subst (λ k. Held e (unlinkFirst e r w (enc e x) j .image) (takeW e (unlinkFirst e r w (enc e x) j .words) (enc e x) k) taken []) (small-is e j .0)
+              (take-step e (unlinkFirst e r w (enc e x) j .image) (unlinkFirst e r w (enc e x) j .words) (unbin e h x (binSize e j)) x (binSize e j) [] there loose),
+        ))
       where
         taken : Heap
         taken = heapChunks (unbin e h x (binSize e j)) (retile 0 ((unbin e h x (binSize e j)) .chunks) x (used (binSize e j) ∷ []))
@@ -88,9 +90,10 @@ module _ (e : Edition) (r w : List ℕ) (h : Heap) (n : Held e r w h []) (nb : �
     unfolding takeFuller
     fuller-obeys =
         subst (λ p. Obeys e r w (cut p (less e (8 * j) (enc e nb))) (some (fromBin e to-dv h x (binSize e j) nb))) (sym link-is)
-        (subst (λ k. Obeys e r w (cut (enc e x) k) (some (fromBin e to-dv h x (binSize e j) nb))) (sym rest)
-        (sym (ap (enc e) (serve-place e to-dv (unbin e h x (binSize e j)) x (binSize e j) nb)),
-        serve-step e to-dv (unlinkFirst e r w (enc e x) j .image) (unlinkFirst e r w (enc e x) j .words) (unbin e h x (binSize e j)) [] x (binSize e j) nb v l fit loose there))
+        (subst (λ k. Obeys e r w (cut (enc e x) k) (some (fromBin e to-dv h x (binSize e j) nb))) (sym rest) (
+          sym (ap (enc e) (serve-place e to-dv (unbin e h x (binSize e j)) x (binSize e j) nb)),
+          serve-step e to-dv (unlinkFirst e r w (enc e x) j .image) (unlinkFirst e r w (enc e x) j .words) (unbin e h x (binSize e j)) [] x (binSize e j) nb v l fit loose there,
+        ))
       where
         cut : ℕ → ℕ → Reply
         cut p k = answering p (serveB e to-dv (unlinkFirst e r w p j .image) (unlinkFirst e r w p j .words) p (enc e nb) k)
@@ -106,10 +109,11 @@ module _ (e : Edition) (r w : List ℕ) (h : Heap) (n : Held e r w h []) (nb : �
   tree-obeys : (k : Rest) (b : Best) (c : Cand) → Finds e nb b c → Fits e h 0 nb c → Obeys e r w (takeTree e k r w (enc e nb) b) (some (fromBin e k h (c .at) (c .size) nb))
   unfolding takeTree
   tree-obeys k b c g f =
-      rw (g .place, g .left)
-      (sym (ap (enc e) (serve-place e k (unbin e h (c .at) (c .size)) (c .at) (c .size) nb)),
-      serve-step e k (unlinkLarge e r w (enc e (c .at)) .image) (unlinkLarge e r w (enc e (c .at)) .words) (unbin e h (c .at) (c .size)) [] (c .at) (c .size) nb v l (f .large) loose
-      (subst (λ cs. Starts 0 cs (c .at) (free (c .size))) (sym (unbin-leaves e h (c .at) (c .size) .0)) (f .starts)))
+      rw (g .place, g .left) (
+        sym (ap (enc e) (serve-place e k (unbin e h (c .at) (c .size)) (c .at) (c .size) nb)),
+        serve-step e k (unlinkLarge e r w (enc e (c .at)) .image) (unlinkLarge e r w (enc e (c .at)) .words) (unbin e h (c .at) (c .size)) [] (c .at) (c .size) nb v l (f .large) loose
+            (subst (λ cs. Starts 0 cs (c .at) (free (c .size))) (sym (unbin-leaves e h (c .at) (c .size) .0)) (f .starts)),
+      )
     where
       large : isSmall e (c .size) ≡ false
       large = le-ltb (W e * c .size) 256 (f .tall)
@@ -121,7 +125,6 @@ module _ (e : Edition) (r w : List ℕ) (h : Heap) (n : Held e r w h []) (nb : �
       loose =
           subst (λ (g : Heap). Held e (unlinkLarge e r w (enc e (c .at)) .image) (unlinkLarge e r w (enc e (c .at)) .words) g (c .at ∷ [])) (sym gone)
           (unlink-large-step e r w h [] (c .at) (c .size) large n (f .starts) (in-trie e (decode r) w h [] (n .near) (c .at) (c .size) (f .starts) (omega (arith, f .not-dv)) large))
-
 
   -- ---- a small need
 

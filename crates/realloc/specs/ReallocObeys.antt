@@ -145,12 +145,14 @@ module _ (e : Edition) (r w : List ℕ) (h : Heap) (n : Held e r w h []) (xs : L
       (λ z. rw (le-ltb nb (s + h .top) (leb-true (s + h .top) nb z)) refl)
       (λ z. let u = leb-false (s + h .top) nb z in
       subst (λ t. Agrees e r w t (growIn e h xs p s nb [])) (sym (grown u))
-      (rw (lt-ltb nb (s + h .top) u)
-      (refl, subst (λ k. Held e (setTop r (enc e k) (enc e (s + h .top - nb))) ws (heapTiles h (xs ++ (used nb ∷ [])) (s + h .top - nb)) []) (end-append 0 xs (used nb ∷ []))
-      (swap-top-step e r w ws h [] [] xs (used s ∷ []) (used nb ∷ []) (s + h .top - nb) q n (simp length-set)
-      (grow-top e w 0 true xs s (h .top) nb (s + h .top - nb) (omega arith) v l (omega arith) (subst (λ c. Heads e w c (h .top)) q (n .near .heads)))
-      (λ i k. getD-set-other (set w (p + 1) (keptHead e w p nb)) (p + nb + 1) i (W e * (s + h .top - nb) + 1) 0 (λ y. omega arith) ∙ getD-set-other w (p + 1) i (keptHead e w p nb) 0 (λ y. omega arith))
-      (λ x. omega arith) (λ x. refl))))))
+      (rw (lt-ltb nb (s + h .top) u) (
+        refl,
+        subst (λ k. Held e (setTop r (enc e k) (enc e (s + h .top - nb))) ws (heapTiles h (xs ++ (used nb ∷ [])) (s + h .top - nb)) []) (end-append 0 xs (used nb ∷ []))
+            (swap-top-step e r w ws h [] [] xs (used s ∷ []) (used nb ∷ []) (s + h .top - nb) q n (simp length-set)
+            (grow-top e w 0 true xs s (h .top) nb (s + h .top - nb) (omega arith) v l (omega arith) (subst (λ c. Heads e w c (h .top)) q (n .near .heads)))
+            (λ i k. getD-set-other (set w (p + 1) (keptHead e w p nb)) (p + nb + 1) i (W e * (s + h .top - nb) + 1) 0 (λ y. omega arith) ∙ getD-set-other w (p + 1) i (keptHead e w p nb) 0 (λ y. omega arith))
+            (λ x. omega arith) (λ x. refl)),
+      ))))
     where
       tl : HeadsFrom e w p (lastUse true xs) (used s ∷ []) (h .top)
       tl = tail e r w h n xs s [] q
@@ -312,14 +314,16 @@ module _ (e : Edition) (r w : List ℕ) (h : Heap) (n : Held e r w h []) (xs : L
               pick-case (λ t. Agrees e r w t (some spared)) (ltb (s + b - nb) 4)
               (λ z. rw (lt-leb 4 (s + b - nb) (ltb-true (s + b - nb) 4 z)) (refl, whole r₀ w (heapDv h none) loose refl refl refl))
               (λ z. let u = ltb-false (s + b - nb) 4 z in
-              rw (le-leb 4 (s + b - nb) u)
-              (refl, subst (λ x. Held e (setDv r (wrap e (enc e p + enc e nb)) (enc e (s + b - nb))) x (heapDv (heapChunks h (xs ++ (used nb ∷ free (s + b - nb) ∷ ys))) (some (p + nb))) []) (sym (rest-words fit u))
-              (subst (λ c. Held e (setDv r c (enc e (s + b - nb))) ws (heapDv (heapChunks h (xs ++ (used nb ∷ free (s + b - nb) ∷ ys))) (some (p + nb))) []) (sym (small-sum e p nb (omega (arith, near))))
-              (subst (λ x. Held e x ws (heapDv (heapChunks h (xs ++ (used nb ∷ free (s + b - nb) ∷ ys))) (some (p + nb))) []) (dv-twice r (noLink e) 0 (enc e (p + nb)) (enc e (s + b - nb)) (n .image))
-              (dv-step e r₀ ws (heapChunks (heapDv h none) (xs ++ (used nb ∷ free (s + b - nb) ∷ ys))) (p + nb) (s + b - nb) [] refl
-              (swap-step e r₀ w ws (heapDv h none) ((p + s) ∷ []) ((p + nb) ∷ []) xs (used s ∷ free b ∷ []) (used nb ∷ free (s + b - nb) ∷ []) ys q loose
-              (grow-rest e w p (lastUse true xs) s (tl .run .0) b nb (s + b - nb) (omega arith) (fa .even) v l u (omega (arith, nx .fits))) (λ x. omega arith) (λ x. omega arith))
-              (starts-right 0 xs (used nb ∷ free (s + b - nb) ∷ ys) (p + nb) (free (s + b - nb)) (inr (inl (refl, refl)))))))))
+              rw (le-leb 4 (s + b - nb) u) (
+                refl,
+                subst (λ x. Held e (setDv r (wrap e (enc e p + enc e nb)) (enc e (s + b - nb))) x (heapDv (heapChunks h (xs ++ (used nb ∷ free (s + b - nb) ∷ ys))) (some (p + nb))) []) (sym (rest-words fit u))
+                    (subst (λ c. Held e (setDv r c (enc e (s + b - nb))) ws (heapDv (heapChunks h (xs ++ (used nb ∷ free (s + b - nb) ∷ ys))) (some (p + nb))) []) (sym (small-sum e p nb (omega (arith, near))))
+                    (subst (λ x. Held e x ws (heapDv (heapChunks h (xs ++ (used nb ∷ free (s + b - nb) ∷ ys))) (some (p + nb))) []) (dv-twice r (noLink e) 0 (enc e (p + nb)) (enc e (s + b - nb)) (n .image))
+                    (dv-step e r₀ ws (heapChunks (heapDv h none) (xs ++ (used nb ∷ free (s + b - nb) ∷ ys))) (p + nb) (s + b - nb) [] refl
+                    (swap-step e r₀ w ws (heapDv h none) ((p + s) ∷ []) ((p + nb) ∷ []) xs (used s ∷ free b ∷ []) (used nb ∷ free (s + b - nb) ∷ []) ys q loose
+                    (grow-rest e w p (lastUse true xs) s (tl .run .0) b nb (s + b - nb) (omega arith) (fa .even) v l u (omega (arith, nx .fits))) (λ x. omega arith) (λ x. omega arith))
+                    (starts-right 0 xs (used nb ∷ free (s + b - nb) ∷ ys) (p + nb) (free (s + b - nb)) (inr (inl (refl, refl))))))),
+              ))
 
 grow-agrees : (e : Edition) (r w : List ℕ) (h : Heap) (n : Held e r w h []) (xs : List Chunk) (s nb : ℕ) (v : nb % 2 ≡ 0) (l : 4 ≤ nb) (ys : List Chunk) → h .chunks ≡ xs ++ (used s ∷ ys) → Grown e r w h n xs s nb v l (growIn e h xs (endOf 0 xs) s nb ys)
 grow-agrees e r w h n xs s nb v l [] q = into-top e r w h n xs s nb v l q

@@ -84,7 +84,14 @@ fn grow_dv(r: &mut [u64; 72], w: &mut [u64], p: ChunkOff, all: u64, nb: u64) -> 
     true
 }
 
-fn grow_binned(r: &mut [u64; 72], w: &mut [u64], p: ChunkOff, old: u64, next: ChunkOff, nb: u64) -> bool
+fn grow_binned(
+    r: &mut [u64; 72],
+    w: &mut [u64],
+    p: ChunkOff,
+    old: u64,
+    next: ChunkOff,
+    nb: u64,
+) -> bool
     ensures { λ x. ⌜ tried x (now (r .exit)) (now (w .exit)) ≡ growBinned wide (now (r .entry)) (now (w .entry)) (p .0) old (next .0) nb ⌝ }
 {
     let b = size(w, next);

@@ -1,3 +1,9 @@
 -- The check: the words level.
 pub mod Marks
 pub mod SoundBytes
+pub mod MarksLaws
+pub mod Took
+pub mod ListLaws
+pub mod RingLaws
+pub mod TreeLaws
+pub mod BinsLaws

@@ -4,11 +4,20 @@ pub mod marks;
 pub mod small;
 pub mod tiles;
 pub mod trees;
+
 ghost use mathlib.Core.Path.{_≡_};
 ghost use lib.ListN.{length};
 ghost use Rattle.words.specs.Edition.{wide};
 ghost use Rattle.sound.specs.Marks.{checked};
 ghost use Rattle.sound.specs.SoundBytes.{turns, countOk, recordOk, binsOk, chunksOk, soundB, startsAt, liveB, usableB};
+use crate::marks::MARK_WORDS;
+use crate::marks::TURNS;
+use crate::marks::is_empty;
+use crate::small::dv_ok;
+use crate::small::small_bins_ok;
+use crate::tiles::top_ok;
+use crate::tiles::walk;
+use crate::trees::tree_bins_ok;
 use chunk::access::BlockOff;
 use chunk::access::ChunkOff;
 use chunk::heads::cinuse;
@@ -17,14 +26,6 @@ use chunk::image::LENGTH;
 use chunk::image::SMALLMAP;
 use chunk::image::TOP;
 use chunk::image::TREEMAP;
-use crate::small::dv_ok;
-use crate::small::small_bins_ok;
-use crate::marks::MARK_WORDS;
-use crate::marks::TURNS;
-use crate::marks::is_empty;
-use crate::tiles::top_ok;
-use crate::tiles::walk;
-use crate::trees::tree_bins_ok;
 
 // An even number of words from 16 to 8,192.
 pub fn words_ok(n: usize) -> bool

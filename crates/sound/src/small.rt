@@ -3,6 +3,10 @@ ghost use mathlib.Core.Path.{_≡_};
 ghost use Rattle.words.specs.Edition.{wide, noLink};
 ghost use Rattle.sound.specs.Marks.{checked};
 ghost use Rattle.sound.specs.SoundBytes.{turns, dvOk, bitOk, linkedOk, listOk, smallBinOk, smallBinsOk};
+use crate::marks;
+use crate::marks::MARK_WORDS;
+use crate::marks::TURNS;
+use crate::tiles::head_is;
 use chunk::access::ChunkOff;
 use chunk::access::NONE;
 use chunk::access::get;
@@ -11,10 +15,6 @@ use chunk::image::DV;
 use chunk::image::DVSIZE;
 use chunk::image::SMALLMAP;
 use chunk::image::smallbin_at;
-use crate::marks;
-use crate::marks::MARK_WORDS;
-use crate::marks::TURNS;
-use crate::tiles::head_is;
 
 pub fn dv_ok(r: &[u64; 72], w: &[u64], m: &mut [u64; MARK_WORDS]) -> bool
     ensures { λ x. ⌜ checked x (now (m .exit)) ≡ dvOk wide (now (r .entry)) (now (w .entry)) (now (m .entry)) ⌝ }

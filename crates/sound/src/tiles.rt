@@ -5,13 +5,13 @@ ghost use Rattle.words.specs.Logic.{pick};
 ghost use Rattle.words.specs.Edition.{wide};
 ghost use Rattle.sound.specs.Marks.{setMark, checked};
 ghost use Rattle.sound.specs.SoundBytes.{turns, headIs, topOk, Step, step, usedFlags, roomFor, freeOk, chunkAt, walkHeads};
+use crate::marks;
+use crate::marks::MARK_WORDS;
+use crate::marks::TURNS;
 use chunk::access::ChunkOff;
 use chunk::access::get;
 use chunk::image::TOP;
 use chunk::image::TOPSIZE;
-use crate::marks;
-use crate::marks::MARK_WORDS;
-use crate::marks::TURNS;
 
 // A chunk's size, 0 where none fits there, and whether it is in use.
 pub struct Found {

@@ -7,6 +7,11 @@ ghost use Rattle.tries.specs.Bits.{wid};
 ghost use Rattle.chunk.specs.Bytes.{word};
 ghost use Rattle.sound.specs.Marks.{checked};
 ghost use Rattle.sound.specs.SoundBytes.{turns, childless, memberOk, ringOk, nodeSize, sizeFits, nodeFits, nodeOk, treeOk, treeBinOk, treeBinsOk};
+use crate::marks;
+use crate::marks::MARK_WORDS;
+use crate::marks::TURNS;
+use crate::small::bit_ok;
+use crate::tiles::head_is;
 use chunk::access::ChunkOff;
 use chunk::access::NONE;
 use chunk::access::ROOT;
@@ -14,11 +19,6 @@ use chunk::access::get;
 use chunk::access::link;
 use chunk::image::TREEMAP;
 use chunk::image::treebin_at;
-use crate::small::bit_ok;
-use crate::marks;
-use crate::marks::MARK_WORDS;
-use crate::marks::TURNS;
-use crate::tiles::head_is;
 use index::tree_bin::min_size_for_tree_index;
 
 fn childless(w: &[u64], c: ChunkOff) -> bool
@@ -96,7 +96,15 @@ fn size_fits(sizes: &[u64; MARK_WORDS], h: u64, lo: u64, k: u32) -> bool
 }
 
 // The tree member t fits below up.
-fn node_fits(w: &[u64], sizes: &[u64; MARK_WORDS], t: ChunkOff, up: u64, i: u32, lo: u64, k: u32) -> bool
+fn node_fits(
+    w: &[u64],
+    sizes: &[u64; MARK_WORDS],
+    t: ChunkOff,
+    up: u64,
+    i: u32,
+    lo: u64,
+    k: u32,
+) -> bool
     requires { ⌜ k ≤ 24 ⌝ }
     ensures { λ x. ⌜ x ≡ nodeFits wide (now (w .entry)) i k lo (t .0) up (now (sizes .entry)) ⌝ }
 {
@@ -118,7 +126,16 @@ fn node_size(w: &[u64], t: ChunkOff) -> u64
 }
 
 // A tree member with its ring.
-fn node_ok(w: &[u64], m: &mut [u64; MARK_WORDS], sizes: &[u64; MARK_WORDS], t: ChunkOff, up: u64, i: u32, lo: u64, k: u32) -> bool
+fn node_ok(
+    w: &[u64],
+    m: &mut [u64; MARK_WORDS],
+    sizes: &[u64; MARK_WORDS],
+    t: ChunkOff,
+    up: u64,
+    i: u32,
+    lo: u64,
+    k: u32,
+) -> bool
     requires { ⌜ k ≤ 24 ⌝ }
     ensures { λ x. ⌜ checked x (now (m .exit)) ≡ nodeOk wide (now (w .entry)) i k lo (t .0) up (now (sizes .entry)) (now (m .entry)) ⌝ }
 {
@@ -133,7 +150,16 @@ fn node_ok(w: &[u64], m: &mut [u64; MARK_WORDS], sizes: &[u64; MARK_WORDS], t: C
 
 // The tree at t: sizes of [lo, lo + 2^k words), child 0 the lower half, child 1 the upper; k falls, so the depth is at most 19.
 // sizes: the sizes of the members above t.
-fn tree_ok(w: &[u64], m: &mut [u64; MARK_WORDS], sizes: &mut [u64; MARK_WORDS], t: ChunkOff, up: u64, i: u32, lo: u64, k: u32) -> bool
+fn tree_ok(
+    w: &[u64],
+    m: &mut [u64; MARK_WORDS],
+    sizes: &mut [u64; MARK_WORDS],
+    t: ChunkOff,
+    up: u64,
+    i: u32,
+    lo: u64,
+    k: u32,
+) -> bool
     requires { ⌜ (k ≤ 24) × (lo + 8 * wid k ≤ 2 ^ 40) ⌝ }
     ensures marks { λ x. ⌜ checked x (now (m .exit)) ≡ treeOk wide (now (w .entry)) i k lo (t .0) up (now (sizes .entry)) (now (m .entry)) ⌝ }
     ensures sizes { λ x. ⌜ (x ≡ true → now (sizes .exit) ≡ now (sizes .entry)) ⌝ }
@@ -159,7 +185,13 @@ fn tree_ok(w: &[u64], m: &mut [u64; MARK_WORDS], sizes: &mut [u64; MARK_WORDS], 
     true
 }
 
-fn tree_bin_ok(r: &[u64; 72], w: &[u64], m: &mut [u64; MARK_WORDS], sizes: &mut [u64; MARK_WORDS], i: u32) -> bool
+fn tree_bin_ok(
+    r: &[u64; 72],
+    w: &[u64],
+    m: &mut [u64; MARK_WORDS],
+    sizes: &mut [u64; MARK_WORDS],
+    i: u32,
+) -> bool
     requires { ⌜ i < 32 ⌝ }
     ensures marks { λ x. ⌜ checked x (now (m .exit)) ≡ treeBinOk wide (now (r .entry)) (now (w .entry)) (now (sizes .entry)) i (now (m .entry)) ⌝ }
     ensures sizes { λ x. ⌜ (x ≡ true → now (sizes .exit) ≡ now (sizes .entry)) ⌝ }
@@ -168,7 +200,16 @@ fn tree_bin_ok(r: &[u64; 72], w: &[u64], m: &mut [u64; MARK_WORDS], sizes: &mut 
     if !bit_ok(r[TREEMAP], i, t) {
         return false;
     }
-    tree_ok(w, m, sizes, t, ROOT, i, min_size_for_tree_index(i), i / 2 + 4)
+    tree_ok(
+        w,
+        m,
+        sizes,
+        t,
+        ROOT,
+        i,
+        min_size_for_tree_index(i),
+        i / 2 + 4,
+    )
 }
 
 pub fn tree_bins_ok(r: &[u64; 72], w: &[u64], m: &mut [u64; MARK_WORDS]) -> bool

@@ -106,4 +106,4 @@ module _ (r w : List ℕ) (c n : ℕ) {i root : ℕ} (e : i ≡ treeIndex n) (e�
     unfolding insertLarge
     more-words e₂ e₃ e₄ = rw (ne-eqb (linkOf tree r (treeIndex n)) (2 ^ 64 - 1) root-there) (cc)
 
-pub ruleset laws = (seek-out, seek-here, seek-free, seek-turn, leaf-w, tie-w, slot-w, ring-w, seat-ring, seat-slot, between-w, first-image, first-words, more-words)
+pub ruleset laws = (seek-out, seek-here, seek-free, seek-turn, leaf-w, tie-w, slot-w, ring-w, seat-slot, between-w, first-image, first-words, more-words)

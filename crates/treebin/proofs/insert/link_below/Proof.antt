@@ -1,5 +1,5 @@
 use borrow.Author.Needs.{needs}
-use Rattle.treebin.proofs.InsertLaws.{laws}
+use Rattle.treebin.proofs.InsertLaws.{seat-ring, laws}
 use Rattle.treebin.proofs.insert.link_below.Statement.{statement}
 use Rattle.treebin.proofs.insert.link_below.Tie as tie
 use Rattle.treebin.proofs.insert.link_below.Reads as reads
@@ -26,7 +26,7 @@ same-length c = search needs
 
 -- src/insert.rt:102:1
 returns : tie.Need-returns
-returns c = search (laws, needs)
+returns c = seat-ring _ _ _ _ _ (c .before .before .before .before .before .before .if1 .taken) (c .before .before .before .before .link .ensures) (c .before .before .link-ring .ensures)
 
 -- src/insert.rt:102:1
 same-length-2 : tie.Need-same-length-2
