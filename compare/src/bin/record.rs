@@ -1,4 +1,4 @@
-//! Writes recorded.txt, a sample of the crate's answers for programs to replay.
+//! Writes ../crates/recorded/stdin, a sample of the crate's answers for programs to replay.
 fn main() {
     #[cfg(crate_there)]
     compare::record::run();

@@ -5,3 +5,4 @@ pub mod Plain
 pub mod PlainInuse
 pub mod Held
 pub mod PlainLinks
+pub mod ChunkKeeps

@@ -2,3 +2,4 @@
 pub mod MallocBytes
 pub mod MallocObeys
 pub mod MallocFollows
+pub mod MallocKeeps

@@ -1,3 +1,4 @@
 -- memalign: the words level, and that it follows the rule.
 pub mod MemalignBytes
 pub mod MemalignObeys
+pub mod MemalignKeeps

@@ -2,3 +2,5 @@
 pub mod ReallocBytes
 pub mod ReallocObeys
 pub mod ReallocFollows
+pub mod ResizeKeeps
+pub mod ReallocKeeps

@@ -20,3 +20,4 @@ pub mod Cutting
 pub mod ReallocLaws
 pub mod MemalignLaws
 pub mod Slips
+pub mod Stays

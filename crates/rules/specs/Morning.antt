@@ -33,19 +33,19 @@ pub data Line : Type 0 where
 -- ---- tests
 
 -- an answer as two numbers: its kind, and what it carries (a refusal: document 01's number)
-abbrev kind : Answer → ℕ
+abbrev pub kind : Answer → ℕ
 kind (granted off) = 0
 kind done = 1
 kind (bytes n) = 2
 kind (refused r) = 3
 
-abbrev value : Answer → ℕ
+abbrev pub value : Answer → ℕ
 value (granted off) = off
 value done = 0
 value (bytes n) = n
 value (refused r) = number r
 
-abbrev same : Answer → ℕ → ℕ → Bool
+abbrev pub same : Answer → ℕ → ℕ → Bool
 same a k v = eqb (kind a) k && eqb (value a) v
 
 abbrev freeAt : ℕ → List Chunk → ℕ → ℕ → Bool
@@ -78,10 +78,10 @@ pub record After : Type 0 where
   pub right : Bool
   pub heap : Heap
 
-abbrev after : Bool → Heap → After
+abbrev pub after : Bool → Heap → After
 after b h = record { right = b; heap = h }
 
-abbrev line : ℕ → Heap → Line → After
+abbrev pub line : ℕ → Heap → Line → After
 line n h (call c a) = let o = answerTo wide n h c in after (same (o .answer) (kind a) (value a)) (o .heap)
 line n h (copying c a k) = let o = answerTo wide n h c in after (same (o .answer) (kind a) (value a) && eqb (o .copied) k) (o .heap)
 line n h (refusing c k) = let o = answerTo wide n h c in after (same (o .answer) 3 k) (o .heap)

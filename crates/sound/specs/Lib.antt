@@ -7,3 +7,7 @@ pub mod ListLaws
 pub mod RingLaws
 pub mod TreeLaws
 pub mod BinsLaws
+pub mod TilingLaws
+pub mod SpareLaws
+pub mod SoundLaws
+pub mod LiveLaws

@@ -10,10 +10,10 @@ ghost use Rattle.sound.specs.Marks.{holdable, hasMark, lacksMark, setMar
 // The size of every set: a granule for each 2 words of the largest arena.
 pub const MARK_WORDS: usize = 64;
 
-const GRANULES: u64 = 4096;
+const GRANULES: u64 = 64 * (MARK_WORDS as u64);
 
 // The bound of every walk: more turns than a set has granules.
-pub const TURNS: u32 = 4097;
+pub const TURNS: u32 = 64 * (MARK_WORDS as u32) + 1;
 
 fn holdable(off: u64) -> bool
     ensures { λ x. ⌜ x ≡ holdable wide off ⌝ }

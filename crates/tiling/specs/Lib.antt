@@ -4,3 +4,4 @@ pub mod Steps
 pub mod Free
 pub mod Swaps
 pub mod Regrow
+pub mod Spares

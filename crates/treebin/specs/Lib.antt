@@ -9,3 +9,5 @@ pub mod TreeUnlinkWords
 pub mod TreeUnlinkSteps
 pub mod BinningSteps
 pub mod SearchSteps
+pub mod TreeKeeps
+pub mod BinningKeeps
