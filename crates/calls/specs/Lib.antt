@@ -3,3 +3,4 @@ pub mod CallBytes
 pub mod CallObeys
 pub mod Stars
 pub mod Refusals
+pub mod Histories
