@@ -59,37 +59,37 @@ block-plain : (e : Edition) (p : ℕ) → p ≤ 8192 → blockAt e (enc e p) ≡
 block-plain wide p l = omega arith
 block-plain narrow p l = omega arith
 
-chunk-plain : (e : Edition) (p : ℕ) → p ≤ 8192 → chunkAt e (blockOf e p) ≡ enc e p
+pub chunk-plain : (e : Edition) (p : ℕ) → p ≤ 8192 → chunkAt e (blockOf e p) ≡ enc e p
 chunk-plain wide p l = omega arith
 chunk-plain narrow p l = omega arith
 
-place-plain : (e : Edition) (p : ℕ) → placeOf e (blockOf e p) ≡ p
+pub place-plain : (e : Edition) (p : ℕ) → placeOf e (blockOf e p) ≡ p
 place-plain wide p = omega arith
 place-plain narrow p = omega arith
 
 -- what bytes below the arena's length need is far below the last tree's largest size
-need-low : (e : Edition) (n k : ℕ) → n ≤ W e * k → k ≤ 8192 → W e * (needWords (W e) n + 1028) < huge
+pub need-low : (e : Edition) (n k : ℕ) → n ≤ W e * k → k ≤ 8192 → W e * (needWords (W e) n + 1028) < huge
 unfolding huge
 need-low wide n k l m = let a : needWords 8 n * 8 ≤ n + 32 = omega (arith, need-le 8 n (omega arith), need-words 8 n) in omega (arith, a)
 need-low narrow n k l m = let a : needWords 4 n * 4 ≤ n + 16 = omega (arith, need-le 4 n (omega arith), need-words 4 n) in omega (arith, a)
 
-sum-room : (e : Edition) (a b k : ℕ) → b ≤ k → W e * (a + k) < huge → W e * (a + b) < huge
+pub sum-room : (e : Edition) (a b k : ℕ) → b ≤ k → W e * (a + k) < huge → W e * (a + b) < huge
 sum-room wide a b k l m = omega arith
 sum-room narrow a b k l m = omega arith
 
 -- an alignment of the list, in words: even, from 4 to 1,024
-abbrev Good : Edition → ℕ → Type 0
+abbrev pub Good : Edition → ℕ → Type 0
 Good e x = (m : ℕ) × (x ≡ enc e (2 * m)) × (2 ≤ m) × (m ≤ 512)
 
-abbrev All : (ℕ → Type 0) → List ℕ → Type 0
+abbrev pub All : (ℕ → Type 0) → List ℕ → Type 0
 All P [] = Unit {0}
 All P (y ∷ ys) = P y × All P ys
 
-one-of : (P : ℕ → Type 0) (x : ℕ) (ys : List ℕ) → isIn x ys ≡ true → All P ys → P x
+pub one-of : (P : ℕ → Type 0) (x : ℕ) (ys : List ℕ) → isIn x ys ≡ true → All P ys → P x
 one-of P x [] q a = absurd (let k : _≡_ {A = ℕ} 0 1 = cc in let b : ⊥ = omega arith in b)
 one-of P x (y ∷ ys) q a = pick-case (λ z. z ≡ true → P x) (eqb x y) (λ z u. subst P (sym (eqb-true x y z)) (a .0)) (λ z u. one-of P x ys u (a .1)) q
 
-goods : (e : Edition) → All (Good e) (alignments e)
+pub goods : (e : Edition) → All (Good e) (alignments e)
 goods wide = ((2, refl, omega arith, omega arith), ((4, refl, omega arith, omega arith), ((8, refl, omega arith, omega arith), ((16, refl, omega arith, omega arith), ((32, refl, omega arith, omega arith), ((64, refl, omega arith, omega arith), ((128, refl, omega arith, omega arith), ((256, refl, omega arith, omega arith), tt))))))))
 goods narrow = ((2, refl, omega arith, omega arith), ((4, refl, omega arith, omega arith), ((8, refl, omega arith, omega arith), ((16, refl, omega arith, omega arith), ((32, refl, omega arith, omega arith), ((64, refl, omega arith, omega arith), ((128, refl, omega arith, omega arith), ((256, refl, omega arith, omega arith), ((512, refl, omega arith, omega arith), tt)))))))))
 
@@ -138,10 +138,10 @@ module _ (e : Edition) (r w : List ℕ) (h : Heap) (n : Held e r w h []) where
       go none u = subst (λ y. Follows e (length w) (refusing (not-live off) r w) y) (sym q) (stays (not-live off))
       go (some s) u = let a = live-starts e 0 (h .chunks) off s u in f (a .0) s u (a .1) (a .2)
 
-  place-low : (p s : ℕ) → Starts 0 (h .chunks) p (used s) → p ≤ 8192
+  pub place-low : (p s : ℕ) → Starts 0 (h .chunks) p (used s) → p ≤ 8192
   place-low p s st = omega (arith, starts-in′ 0 (h .chunks) p (used s) st, n .near .heads .top .ends, n .near .most)
 
-  source : (nb : ℕ) → nb % 2 ≡ 0 → 4 ≤ nb → W e * nb < huge → Source e h nb (malloc e h nb)
+  pub source : (nb : ℕ) → nb % 2 ≡ 0 → 4 ≤ nb → W e * nb < huge → Source e h nb (malloc e h nb)
   source nb v l hi = malloc-source e (state (decode r) w) h (n .near) nb v l hi
 
   -- ---- the calls

@@ -4,3 +4,4 @@ pub mod CallObeys
 pub mod Stars
 pub mod Refusals
 pub mod Histories
+pub mod Owners
