@@ -40,7 +40,7 @@ pub data Event : Type 0 where
 abbrev pub writeB : Edition → Store → ℕ → ℕ → ℕ → List ℕ
 writeB e s off k v = pick (liveB e (s .words) (getD (s .image) 4 0) off) (pick (ltb (W e * k) (usableB e (s .words) off)) (set (s .words) (off / W e + k) v) (s .words)) (s .words)
 
-abbrev asked : Edition → Store → Call → Store
+abbrev pub asked : Edition → Store → Call → Store
 asked e s c = let t = callB e (s .image) (s .words) c in store (t .image) (t .words)
 
 -- what is left after all
@@ -67,7 +67,7 @@ ruled e n h (writes off k v ∷ es) = ruled e n h es
 
 -- ---- one event
 
-abbrev HeldIn : Edition → Store → Heap → Type 0
+abbrev pub HeldIn : Edition → Store → Heap → Type 0
 HeldIn e s h = Held e (s .image) (s .words) h []
 
 -- the check lets a sound pair through
@@ -75,26 +75,26 @@ pub let-through : (e : Edition) (r w : List ℕ) (h : Heap) → Held e r w h [] 
 let-through e r w h n c =
     rw (eq-eqb (length w % 2) 0 (n .near .even), le-leb 16 (length w) (n .near .least), le-leb (length w) 8192 (n .near .most), sound-there e r w (n .image) (h, n .near)) refl
 
-calls-held : (e : Edition) (s : Store) (h : Heap) → HeldIn e s h → (c : Call) → Follows e (length (s .words)) (callB e (s .image) (s .words) c) (answerTo e (length (s .words)) h c)
+pub calls-held : (e : Edition) (s : Store) (h : Heap) → HeldIn e s h → (c : Call) → Follows e (length (s .words)) (callB e (s .image) (s .words) c) (answerTo e (length (s .words)) h c)
 calls-held e s h n c = rw (let-through e (s .image) (s .words) h n c) (call-obeys e (s .image) (s .words) h n c)
 
 -- word k of a block of s words at p is one of the owner's
 owned : (w : List ℕ) (p s k v : ℕ) → k + 1 < s → OnlyOwned w (set w (p + 2 + k) v) p s
 owned w p s k v l = (length-set w (p + 2 + k) v, λ i u. getD-set-other w (p + 2 + k) i v 0 (λ z. ⊎-elim (λ y. omega arith) (λ y. omega arith) u))
 
-word-of : (e : Edition) (p : ℕ) → blockOf e p / W e ≡ p + 2
+pub word-of : (e : Edition) (p : ℕ) → blockOf e p / W e ≡ p + 2
 word-of wide p = omega arith
 word-of narrow p = omega arith
 
-below : (e : Edition) (k s : ℕ) → W e * k < W e * (s - 1) → k + 1 < s
+pub below : (e : Edition) (k s : ℕ) → W e * k < W e * (s - 1) → k + 1 < s
 below wide k s l = omega arith
 below narrow k s l = omega arith
 
-record Written (e : Edition) (s : Store) (h : Heap) (v : List ℕ) : Type 0 where
-  held : HeldIn e (store (s .image) v) h
-  count : length v ≡ length (s .words)
+pub record Written (e : Edition) (s : Store) (h : Heap) (v : List ℕ) : Type 0 where
+  pub held : HeldIn e (store (s .image) v) h
+  pub count : length v ≡ length (s .words)
 
-write-held : (e : Edition) (s : Store) (h : Heap) → HeldIn e s h → (off k v : ℕ) → Written e s h (writeB e s off k v)
+pub write-held : (e : Edition) (s : Store) (h : Heap) → HeldIn e s h → (off k v : ℕ) → Written e s h (writeB e s off k v)
 write-held e s h n off k v = rw (live-is e (s .image) (s .words) h n off) (go (liveSize e 0 (h .chunks) off) refl)
   where
     stays : Written e s h (s .words)

@@ -5,3 +5,4 @@ pub mod Stars
 pub mod Refusals
 pub mod Histories
 pub mod Owners
+pub mod Kept
