@@ -68,12 +68,12 @@ place-plain wide p = omega arith
 place-plain narrow p = omega arith
 
 -- what bytes below the arena's length need is far below the last tree's largest size
-pub need-low : (e : Edition) (n k : ℕ) → n ≤ W e * k → k ≤ 8192 → W e * (needWords (W e) n + 1028) < huge
+need-low : (e : Edition) (n k : ℕ) → n ≤ W e * k → k ≤ 8192 → W e * (needWords (W e) n + 1028) < huge
 unfolding huge
 need-low wide n k l m = let a : needWords 8 n * 8 ≤ n + 32 = omega (arith, need-le 8 n (omega arith), need-words 8 n) in omega (arith, a)
 need-low narrow n k l m = let a : needWords 4 n * 4 ≤ n + 16 = omega (arith, need-le 4 n (omega arith), need-words 4 n) in omega (arith, a)
 
-pub sum-room : (e : Edition) (a b k : ℕ) → b ≤ k → W e * (a + k) < huge → W e * (a + b) < huge
+sum-room : (e : Edition) (a b k : ℕ) → b ≤ k → W e * (a + k) < huge → W e * (a + b) < huge
 sum-room wide a b k l m = omega arith
 sum-room narrow a b k l m = omega arith
 
@@ -141,7 +141,7 @@ module _ (e : Edition) (r w : List ℕ) (h : Heap) (n : Held e r w h []) where
   pub place-low : (p s : ℕ) → Starts 0 (h .chunks) p (used s) → p ≤ 8192
   place-low p s st = omega (arith, starts-in′ 0 (h .chunks) p (used s) st, n .near .heads .top .ends, n .near .most)
 
-  pub source : (nb : ℕ) → nb % 2 ≡ 0 → 4 ≤ nb → W e * nb < huge → Source e h nb (malloc e h nb)
+  source : (nb : ℕ) → nb % 2 ≡ 0 → 4 ≤ nb → W e * nb < huge → Source e h nb (malloc e h nb)
   source nb v l hi = malloc-source e (state (decode r) w) h (n .near) nb v l hi
 
   -- ---- the calls
@@ -150,41 +150,49 @@ module _ (e : Edition) (r w : List ℕ) (h : Heap) (n : Held e r w h []) where
     abbrev nb : ℕ
     nb = needWords (W e) k
 
-    even : nb % 2 ≡ 0
+    pub even : nb % 2 ≡ 0
     even = need-words-even (W e) k
 
-    least : 4 ≤ nb
+    pub least : 4 ≤ nb
     least = need-words-least (W e) k (W-pos e)
 
     room : W e * (nb + 1028) < huge
     room = need-low e k (length w) fit (n .near .most)
 
-    low : W e * nb < huge
+    pub low : W e * nb < huge
     low = subst (λ (x : ℕ). W e * x < huge) (omega arith) (sum-room e nb 0 1028 (omega arith) room)
 
+    pub big : (m : ℕ) → m ≤ 512 → W e * (nb + 2 * m + 4) < huge
+    big m l = subst (λ (x : ℕ). W e * x < huge) (omega arith) (sum-room e nb (2 * m + 4) 1028 (omega arith) room)
+
+    -- what each rule does to the blocks
+    pub malloc-blocks : Grants h nb (nb + 4) (λ x. ⊥) (malloc e h nb)
+    malloc-blocks = malloc-grants e h nb tidy even least (malloc e h nb) (source nb even least low)
+
+    pub realloc-blocks : (p s : ℕ) → Starts 0 (h .chunks) p (used s) → Grants h nb (nb + 4) (λ x. x ≡ p) (realloc e h p nb)
+    realloc-blocks p s st = realloc-grants e h p s nb tidy st even least (source nb even least low)
+
+    pub memalign-blocks : (m : ℕ) → 2 ≤ m → m ≤ 512 → Grants h nb (nb + 5) (λ x. ⊥) (memalign e h (2 * m) nb)
+    memalign-blocks m l t =
+        plain (memalign e h (2 * m) nb) (memalign-grants e h (2 * m) m nb tidy refl (omega arith) even least (source (nb + 2 * m + 4) (omega (arith, even)) (omega arith) (big m t)))
+      where
+        plain : (o : Option Grant) → GrantsAligned h (2 * m) nb o → Grants h nb (nb + 5) (λ x. ⊥) o
+        plain none a = tt
+        plain (some b) a = a .0
+
     malloc-call : Follows e (length w) (grantOrNo e r w (mallocB e r w (need (W e) k))) (grantOr6 e h (malloc e h nb))
-    malloc-call =
-        rw (need-words (W e) k)
-        (grants (mallocB e r w (enc e nb)) (malloc e h nb) nb (nb + 4) (λ x. ⊥) (malloc-obeys e r w h n nb even least low) (malloc-grants e h nb tidy even least (malloc e h nb) (source nb even least low)))
+    malloc-call = rw (need-words (W e) k) (grants (mallocB e r w (enc e nb)) (malloc e h nb) nb (nb + 4) (λ x. ⊥) (malloc-obeys e r w h n nb even least low) malloc-blocks)
 
     memalign-call : (al : ℕ) → Good e al → Follows e (length w) (grantOrNo e r w (memalignB e r w al (need (W e) k))) (grantOr6 e h (memalign e h (al / W e) nb))
     memalign-call al g =
         rw (need-words (W e) k, g .1, dec-enc e (2 * g .0))
         (grants (memalignB e r w (enc e (2 * g .0)) (enc e nb)) (memalign e h (2 * g .0) nb) nb (nb + 5) (λ x. ⊥)
-        (memalign-obeys e r w h (2 * g .0) (g .0) nb n refl (omega (arith, g .2)) (omega (arith, g .3)) even least big)
-        (plain (memalign e h (2 * g .0) nb) (memalign-grants e h (2 * g .0) (g .0) nb tidy refl (omega (arith, g .2)) even least (source (nb + 2 * g .0 + 4) (omega (arith, even)) (omega arith) big))))
-      where
-        big : W e * (nb + 2 * g .0 + 4) < huge
-        big = subst (λ (x : ℕ). W e * x < huge) (omega arith) (sum-room e nb (2 * g .0 + 4) 1028 (omega (arith, g .3)) room)
-
-        plain : (o : Option Grant) → GrantsAligned h (2 * g .0) nb o → Grants h nb (nb + 5) (λ x. ⊥) o
-        plain none a = tt
-        plain (some b) a = a .0
+        (memalign-obeys e r w h (2 * g .0) (g .0) nb n refl (omega (arith, g .2)) (omega (arith, g .3)) even least (big (g .0) (g .3))) (memalign-blocks (g .0) (g .2) (g .3)))
 
     realloc-call : (p s : ℕ) → Starts 0 (h .chunks) p (used s) → Follows e (length w) (grantOrNo e r w (reallocB e r w (enc e p) (need (W e) k))) (grantOr6 e h (realloc e h p nb))
     realloc-call p s st =
         rw (need-words (W e) k)
-        (grants (reallocB e r w (enc e p) (enc e nb)) (realloc e h p nb) nb (nb + 4) (λ x. x ≡ p) (realloc-obeys e r w h n p s nb st even least low) (realloc-grants e h p s nb tidy st even least (source nb even least low)))
+        (grants (reallocB e r w (enc e p) (enc e nb)) (realloc e h p nb) nb (nb + 4) (λ x. x ≡ p) (realloc-obeys e r w h n p s nb st even least low) (realloc-blocks p s st))
 
   free-call : (p s : ℕ) → Starts 0 (h .chunks) p (used s) → Follows e (length w) (freed (freeB e r w (enc e p))) (outcome done (giveBack e h p) 0)
   free-call p s st =

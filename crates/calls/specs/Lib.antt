@@ -6,3 +6,4 @@ pub mod Refusals
 pub mod Histories
 pub mod Owners
 pub mod Kept
+pub mod InUse

@@ -5,28 +5,24 @@ use mathlib.Core.Path.{_≡_, refl, sym, _∙_, ap, subst}
 use mathlib.Core.Bool.{Bool, true, false}
 use mathlib.Core.List.{List, [], _∷_}
 use mathlib.Core.Option.{Option, none, some}
-use Prim.Native.Nat.{ℕ, _+_, _-_, _*_, _/_, _%_, _≤_, _<_}
+use Prim.Native.Nat.{ℕ, _+_, _-_, _*_, _/_, _≤_}
 use native.Mathlib.Omega.{arith}
 use lib.Dec.{ltb, eqb}
 use borrow.Author.Tests.{ltb-false}
 use lib.ListN.{length, getD}
 use Rattle.words.specs.Logic.{pick, pick-case}
-use Rattle.words.specs.Edition.{Edition, W, noLink, enc, W-pos, dec-enc}
+use Rattle.words.specs.Edition.{Edition, W, noLink, enc, dec-enc}
 use Rattle.index.specs.Sizes.{need, needWords}
-use Rattle.index.specs.SizesLaws.{need-words, need-words-even, need-words-least}
+use Rattle.index.specs.SizesLaws.{need-words}
 use Rattle.tiling.specs.Tiling.{used, Starts}
-use Rattle.tiling.specs.Spares.{Spares, spares-refl, spares-trans}
-use Rattle.rules.specs.BinOf.{huge}
+use Rattle.tiling.specs.Spares.{Spares, spares-refl}
 use Rattle.rules.specs.Heap.{Heap}
 use Rattle.rules.specs.Malloc.{Grant, malloc}
 use Rattle.rules.specs.Realloc.{realloc}
 use Rattle.rules.specs.Memalign.{memalign}
 use Rattle.rules.specs.Calls.{Call, Malloc, Free, Realloc, Memalign, Usable, Outcome, not-live, isIn, alignments, blockOf, liveSize, grantOr6, movedOr6, freeCall, reallocCall, usableCall, unlessTooMany, answerTo}
 use Rattle.rules.specs.Blocks.{Grants}
-use Rattle.rules.specs.MallocLaws.{malloc-grants}
 use Rattle.rules.specs.FreeLaws.{give-changes}
-use Rattle.rules.specs.ReallocLaws.{realloc-grants}
-use Rattle.rules.specs.MemalignLaws.{GrantsAligned, memalign-grants}
 use Rattle.holds.specs.Lookup.{heads-tidy}
 use Rattle.chunk.specs.Held.{Held}
 use Rattle.malloc.specs.MallocBytes.{Reply, mallocB}
@@ -39,7 +35,7 @@ use Rattle.memalign.specs.MemalignBytes.{memalignB}
 use Rattle.memalign.specs.MemalignKeeps.{memalign-spares}
 use Rattle.sound.specs.LiveLaws.{isSome, live-starts, live-is}
 use Rattle.calls.specs.CallBytes.{Told, refusing, chunkAt, grantOrNo, ifLive, ifFew, freed, coreCall}
-use Rattle.calls.specs.CallObeys.{chunk-plain, place-plain, need-low, sum-room, Good, one-of, goods, place-low, source}
+use Rattle.calls.specs.CallObeys.{chunk-plain, place-plain, Good, one-of, goods, place-low, even, least, low, big, malloc-blocks, realloc-blocks, memalign-blocks}
 
 -- the call is asked to free or to resize the block of the chunk at x
 abbrev pub Names : Edition → Call → ℕ → Type 0
@@ -91,44 +87,23 @@ module _ (e : Edition) (r w : List ℕ) (h : Heap) (n : Held e r w h []) (x s : 
     abbrev nb : ℕ
     nb = needWords (W e) k
 
-    even : nb % 2 ≡ 0
-    even = need-words-even (W e) k
-
-    least : 4 ≤ nb
-    least = need-words-least (W e) k (W-pos e)
-
-    room : W e * (nb + 1028) < huge
-    room = need-low e k (length w) fit (n .near .most)
-
-    low : W e * nb < huge
-    low = subst (λ (z : ℕ). W e * z < huge) (omega arith) (sum-room e nb 0 1028 (omega arith) room)
-
     malloc-left : Left x s w (grantOrNo e r w (mallocB e r w (need (W e) k))) (grantOr6 e h (malloc e h nb))
     malloc-left =
         rw (need-words (W e) k)
-        (grants (mallocB e r w (enc e nb)) (malloc e h nb) nb (nb + 4) (λ z. ⊥) (malloc-spares e r w h n nb even least low x s st)
-        (malloc-grants e h nb (heads-tidy e w h (n .near .heads)) even least (malloc e h nb) (source e r w h n nb even least low)) (λ z. z))
+        (grants (mallocB e r w (enc e nb)) (malloc e h nb) nb (nb + 4) (λ z. ⊥) (malloc-spares e r w h n nb (even e r w h n k fit) (least e r w h n k fit) (low e r w h n k fit) x s st) (malloc-blocks e r w h n k fit) (λ z. z))
 
     realloc-left : (p u : ℕ) → Starts 0 (h .chunks) p (used u) → (x ≡ p → ⊥) → Left x s w (grantOrNo e r w (reallocB e r w (enc e p) (need (W e) k))) (grantOr6 e h (realloc e h p nb))
     realloc-left p u sp ne =
         rw (need-words (W e) k)
-        (grants (reallocB e r w (enc e p) (enc e nb)) (realloc e h p nb) nb (nb + 4) (λ z. z ≡ p) (realloc-spares e r w h n p u nb sp even least low x s st ne)
-        (realloc-grants e h p u nb (heads-tidy e w h (n .near .heads)) sp even least (source e r w h n nb even least low)) ne)
+        (grants (reallocB e r w (enc e p) (enc e nb)) (realloc e h p nb) nb (nb + 4) (λ z. z ≡ p)
+        (realloc-spares e r w h n p u nb sp (even e r w h n k fit) (least e r w h n k fit) (low e r w h n k fit) x s st ne) (realloc-blocks e r w h n k fit p u sp) ne)
 
     memalign-left : (al : ℕ) → Good e al → Left x s w (grantOrNo e r w (memalignB e r w al (need (W e) k))) (grantOr6 e h (memalign e h (al / W e) nb))
     memalign-left al g =
         rw (need-words (W e) k, g .1, dec-enc e (2 * g .0))
         (grants (memalignB e r w (enc e (2 * g .0)) (enc e nb)) (memalign e h (2 * g .0) nb) nb (nb + 5) (λ z. ⊥)
-        (memalign-spares e r w h n (2 * g .0) (g .0) nb refl (omega (arith, g .2)) (omega (arith, g .3)) even least big x s st)
-        (plain (memalign e h (2 * g .0) nb) (memalign-grants e h (2 * g .0) (g .0) nb (heads-tidy e w h (n .near .heads)) refl (omega (arith, g .2)) even least (source e r w h n (nb + 2 * g .0 + 4) (omega (arith, even)) (omega arith) big)))
-        (λ z. z))
-      where
-        big : W e * (nb + 2 * g .0 + 4) < huge
-        big = subst (λ (z : ℕ). W e * z < huge) (omega arith) (sum-room e nb (2 * g .0 + 4) 1028 (omega (arith, g .3)) room)
-
-        plain : (o : Option Grant) → GrantsAligned h (2 * g .0) nb o → Grants h nb (nb + 5) (λ z. ⊥) o
-        plain none a = tt
-        plain (some b) a = a .0
+        (memalign-spares e r w h n (2 * g .0) (g .0) nb refl (omega (arith, g .2)) (omega (arith, g .3)) (even e r w h n k fit) (least e r w h n k fit) (big e r w h n k fit (g .0) (g .3)) x s st)
+        (memalign-blocks e r w h n k fit (g .0) (g .2) (g .3)) (λ z. z))
 
   apart : (off p : ℕ) → (off ≡ blockOf e x → ⊥) → off ≡ blockOf e p → x ≡ p → ⊥
   apart off p ne q z = ne (q ∙ ap (blockOf e) (sym z))

@@ -6,7 +6,6 @@ pub mod tiles;
 pub mod trees;
 
 ghost use mathlib.Core.Path.{_≡_};
-ghost use lib.ListN.{length};
 ghost use Rattle.words.specs.Edition.{wide};
 ghost use Rattle.sound.specs.Marks.{checked};
 ghost use Rattle.sound.specs.SoundBytes.{turns, countOk, recordOk, binsOk, chunksOk, soundB, startsAt, liveB, usableB};

@@ -4,7 +4,7 @@ ghost use mathlib.Core.Bool.{true};
 ghost use Rattle.words.specs.Logic.{pick};
 ghost use Rattle.words.specs.Edition.{wide};
 ghost use Rattle.sound.specs.Marks.{setMark, checked};
-ghost use Rattle.sound.specs.SoundBytes.{turns, headIs, topOk, Step, step, usedFlags, roomFor, freeOk, chunkAt, walkHeads};
+ghost use Rattle.sound.specs.SoundBytes.{turns, headIs, topOk, step, usedFlags, roomFor, freeOk, chunkAt, walkHeads};
 use crate::marks;
 use crate::marks::MARK_WORDS;
 use crate::marks::TURNS;
