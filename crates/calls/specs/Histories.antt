@@ -20,6 +20,7 @@ use Rattle.tiling.specs.Steps.{freshWords}
 use Rattle.rules.specs.Heap.{Heap, freshHeap}
 use Rattle.rules.specs.Calls.{Call, Answer, answerTo, allowedCount, blockOf, liveSize}
 use Rattle.holds.specs.Holds.{freshControl}
+use Rattle.holds.specs.Governed.{Governed, governed-frame}
 use Rattle.holds.specs.Owner.{OnlyOwned, owner-writes}
 use Rattle.holds.specs.Unique.{NoneInUse, none-in-use, fresh-again}
 use Rattle.chunk.specs.Bytes.{Store, store}
@@ -133,6 +134,11 @@ goes e s h n (writes off k v ∷ es) =
 -- "What may sway an answer": the heap that is held, and the number of words
 pub sways : (e : Edition) (s t : Store) (h : Heap) → HeldIn e s h → HeldIn e t h → length (s .words) ≡ length (t .words) → (es : List Event) → answers e s es ≡ answers e t es
 sways e s t h n m q es = goes e s h n es .answered ∙ ap (λ k. ruled e k h es) q ∙ sym (goes e t h m es .answered)
+
+-- and so: words that agree in document 01's list, under one record, get the same answers
+pub agree-answers : (e : Edition) (r w v : List ℕ) (h : Heap) → Held e r w h [] → length v ≡ length w → ((i : ℕ) → Governed h i → getD v i 0 ≡ getD w i 0) → (es : List Event)
+    → answers e (store r w) es ≡ answers e (store r v) es
+agree-answers e r w v h n l f es = sways e (store r w) (store r v) h n (record { image = n .image; near = governed-frame e (decode r) w h [] (n .near) v l f }) (sym l) es
 
 -- ---- from one granted set-up
 

@@ -9,6 +9,7 @@ pub mod BinSmall
 pub mod BinLarge
 pub mod Bin
 pub mod Retile
+pub mod Governed
 pub mod Owner
 pub mod Lookup
 pub mod Spot
