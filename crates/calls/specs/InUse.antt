@@ -86,10 +86,10 @@ module _ (e : Edition) (r w : List ℕ) (h : Heap) (n : Held e r w h []) where
   grants c none lo hi gone m g off = ((λ u. u), (λ u. u))
   grants c (some k) lo hi gone m g off = (
     λ u. ⊎-elim (λ v. inr (u .3 ∙ ap (blockOf e) (v .0)))
-    (λ v. inl ((u .0, u .1, v .0, u .3), λ y. v .1 (m .from (u .0) (subst (Gone c) (u .3) y))))
-    (g .changes .only (u .0) (u .1) (u .2)),
+        (λ v. inl ((u .0, u .1, v .0, u .3), λ y. v .1 (m .from (u .0) (subst (Gone c) (u .3) y))))
+        (g .changes .only (u .0) (u .1) (u .2)),
     ⊎-elim (λ u. (u .0 .0, u .0 .1, g .changes .kept (u .0 .0) (u .0 .1) (u .0 .2) (λ y. u .1 (subst (Gone c) (sym (u .0 .3)) (m .to (u .0 .0) y))), u .0 .3))
-    (λ u. (k .place, g .words, g .block, u)),
+        (λ u. (k .place, g .words, g .block, u)),
   )
 
   refuses : (c : Call) (why : Reason) → Told c (refuse h why)

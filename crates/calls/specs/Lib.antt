@@ -7,3 +7,4 @@ pub mod Histories
 pub mod Owners
 pub mod Kept
 pub mod InUse
+pub mod Rows

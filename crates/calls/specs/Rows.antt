@@ -1,0 +1,93 @@
+-- FOR ANY RECORD, ARENA AND NUMBERS: 1 is said exactly when the word count is not allowed; 2 exactly when it is and the pair is not sound; and whatever is
+-- refused, record and arena are as they were. (Rows 3 to 6 are said of sound pairs: there every answer is the rules', by `call-obeys`.)
+-- By the order of the tests, and the check that is exact. Assumes nothing.
+use mathlib.Core.Path.{_≡_, refl, sym, _∙_, ap}
+use mathlib.Core.Bool.{Bool, true, false}
+use mathlib.Core.List.{List}
+use mathlib.Core.Logic.{_↔_, _⊎_, inl, inr, ⊎-elim}
+use Prim.Native.Nat.{ℕ, _*_, _≤_, _<_}
+use native.Mathlib.Omega.{arith}
+use lib.Dec.{ltb, eqb}
+use lib.ListN.{length, getD}
+use Rattle.words.specs.Logic.{pick, pick-case, false-true}
+use Rattle.words.specs.Edition.{Edition, W, noLink}
+use Rattle.rules.specs.Calls.{Call, Malloc, Free, Realloc, Memalign, Usable, Reason, bad-count, unsound, bad-alignment, too-many, not-live, no-room, number, Answer, granted, done, bytes, refused, allowedCount, isIn, alignments}
+use Rattle.holds.specs.Holds.{Sound}
+use Rattle.chunk.specs.Image.{decode}
+use Rattle.malloc.specs.MallocBytes.{Reply}
+use Rattle.sound.specs.SoundBytes.{soundB, liveB}
+use Rattle.sound.specs.SoundLaws.{sound-yes, sound-there}
+use Rattle.calls.specs.CallBytes.{Told, told, refusing, grantOrNo, ifLive, ifFew, coreCall, callB}
+
+-- document 01's number of an answer, 0 where nothing is refused
+abbrev pub refusal : Answer → ℕ
+refusal (granted b) = 0
+refusal done = 0
+refusal (bytes n) = 0
+refusal (refused why) = number why
+
+-- ---- a refusal changes nothing
+
+module _ (e : Edition) (r w : List ℕ) where
+  abbrev Quiet : Told → Type 0
+  Quiet t = (refusal (t .answer) ≡ 0 → ⊥) → (t .image ≡ r) × (t .words ≡ w)
+
+  quiet : (why : Reason) → Quiet (refusing why r w)
+  quiet why f = (refl, refl)
+
+  granting : (a : Reply) → Quiet (grantOrNo e r w a)
+  granting a = pick-case Quiet (eqb (a .answer) (noLink e)) (λ z. quiet no-room) (λ z f. absurd (f refl))
+
+  pub core-quiet : (c : Call) → Quiet (coreCall e r w c)
+  core-quiet (Malloc n) = pick-case Quiet (ltb (W e * length w) n) (λ z. quiet too-many) (λ z. granting _)
+  core-quiet (Free off) = pick-case Quiet (liveB e w (getD r 4 0) off) (λ z f. absurd (f refl)) (λ z. quiet (not-live off))
+  core-quiet (Realloc off n) =
+      pick-case Quiet (ltb (W e * length w) n) (λ z. quiet too-many) (λ z. pick-case Quiet (liveB e w (getD r 4 0) off) (λ y. granting _) (λ y. quiet (not-live off)))
+  core-quiet (Memalign al n) =
+      pick-case Quiet (isIn al (alignments e)) (λ z. pick-case Quiet (ltb (W e * length w) n) (λ y. quiet too-many) (λ y. granting _)) (λ z. quiet bad-alignment)
+  core-quiet (Usable off) = pick-case Quiet (liveB e w (getD r 4 0) off) (λ z f. absurd (f refl)) (λ z. quiet (not-live off))
+
+  pub refusal-changes-nothing : (c : Call) → Quiet (callB e r w c)
+  refusal-changes-nothing c = pick-case Quiet (allowedCount (length w)) (λ z. pick-case Quiet (soundB e r w) (λ y. core-quiet c) (λ y. quiet unsound)) (λ z. quiet bad-count)
+
+  -- ---- rows 1 and 2 are said by nothing else
+
+  abbrev Later : Told → Type 0
+  Later t = (refusal (t .answer) ≡ 0) ⊎ (3 ≤ refusal (t .answer))
+
+  grant-later : (a : Reply) → Later (grantOrNo e r w a)
+  grant-later a = pick-case Later (eqb (a .answer) (noLink e)) (λ z. inr (omega arith)) (λ z. inl refl)
+
+  core-later : (c : Call) → Later (coreCall e r w c)
+  core-later (Malloc n) = pick-case Later (ltb (W e * length w) n) (λ z. inr (omega arith)) (λ z. grant-later _)
+  core-later (Free off) = pick-case Later (liveB e w (getD r 4 0) off) (λ z. inl refl) (λ z. inr (omega arith))
+  core-later (Realloc off n) = pick-case Later (ltb (W e * length w) n) (λ z. inr (omega arith)) (λ z. pick-case Later (liveB e w (getD r 4 0) off) (λ y. grant-later _) (λ y. inr (omega arith)))
+  core-later (Memalign al n) = pick-case Later (isIn al (alignments e)) (λ z. pick-case Later (ltb (W e * length w) n) (λ y. inr (omega arith)) (λ y. grant-later _)) (λ z. inr (omega arith))
+  core-later (Usable off) = pick-case Later (liveB e w (getD r 4 0) off) (λ z. inl refl) (λ z. inr (omega arith))
+
+  later-than : (k : ℕ) → 1 ≤ k → k < 3 → (t : Told) → Later t → refusal (t .answer) ≡ k → ⊥
+  later-than k l m t f q = ⊎-elim (λ u. omega (arith, u, q)) (λ u. omega (arith, u, q)) f
+
+  clash : {A : Type 0} (b : Bool) → b ≡ true → b ≡ false → A
+  clash b p q = false-true (sym q ∙ p)
+
+  abbrev Count : Told → Type 0
+  Count t = refusal (t .answer) ≡ 1 ↔ allowedCount (length w) ≡ false
+
+  pub row-1 : (c : Call) → refusal (callB e r w c .answer) ≡ 1 ↔ allowedCount (length w) ≡ false
+  row-1 c =
+      pick-case Count (allowedCount (length w))
+      (λ z. pick-case Count (soundB e r w) (λ y. ((λ q. absurd (later-than 1 (omega arith) (omega arith) (coreCall e r w c) (core-later c) q)), (λ q. clash (allowedCount (length w)) z q)))
+      (λ y. ((λ q. absurd (let b : ⊥ = omega (arith, q) in b)), (λ q. clash (allowedCount (length w)) z q))))
+      (λ z. ((λ q. z), (λ q. refl)))
+
+  abbrev Whole : Told → Type 0
+  Whole t = refusal (t .answer) ≡ 2 ↔ (allowedCount (length w) ≡ true) × (Sound e (decode r) w → ⊥)
+
+  pub row-2 : length r ≡ 72 → (c : Call) → refusal (callB e r w c .answer) ≡ 2 ↔ (allowedCount (length w) ≡ true) × (Sound e (decode r) w → ⊥)
+  row-2 l c =
+      pick-case Whole (allowedCount (length w))
+      (λ z. pick-case Whole (soundB e r w)
+      (λ y. ((λ q. absurd (later-than 2 (omega arith) (omega arith) (coreCall e r w c) (core-later c) q)), (λ q. absurd (q .1 (sound-yes e r w l y)))))
+      (λ y. ((λ q. (z, λ s. clash (soundB e r w) (sound-there e r w l s) y)), (λ q. refl))))
+      (λ z. ((λ q. absurd (let b : ⊥ = omega (arith, q) in b)), (λ q. clash (allowedCount (length w)) (q .0) z)))
