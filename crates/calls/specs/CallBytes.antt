@@ -1,6 +1,5 @@
 -- THE WORDS LEVEL of the calls: what a call answers, and leaves in the record's image and in the arena's words, for all inputs. The refusals stand
 -- in document 01's order; the core's own functions do the rest. A refused call hands back what it was given. Assumes nothing.
-use mathlib.Core.Bool.{Bool}
 use mathlib.Core.List.{List}
 use Prim.Native.Nat.{ℕ, _+_, _*_}
 use lib.Dec.{ltb, eqb}

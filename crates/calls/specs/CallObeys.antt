@@ -1,19 +1,19 @@
 -- EVERY CALL DOES WHAT THE RULES SAY: where image and words hold a heap, a call answers what the rule answers on that heap, and image and words then
 -- hold the rule's heap; the number of words stays. By the theorem of each function of the core, and exact liveness. Assumes nothing.
-use mathlib.Core.Path.{_≡_, refl, sym, _∙_, ap, subst}
+use mathlib.Core.Path.{_≡_, refl, sym, ap, subst}
 use mathlib.Core.Bool.{Bool, true, false}
 use mathlib.Core.List.{List, [], _∷_}
 use mathlib.Core.Option.{Option, none, some}
-use Prim.Native.Nat.{ℕ, _+_, _-_, _*_, _/_, _%_, _≤_, _<_}
+use Prim.Native.Nat.{ℕ, _+_, _*_, _/_, _%_, _≤_, _<_}
 use native.Mathlib.Omega.{arith}
-use lib.Dec.{leb, ltb, eqb}
+use lib.Dec.{ltb, eqb}
 use borrow.Author.Tests.{eqb-true, eq-eqb, ne-eqb, ltb-false}
-use lib.ListN.{length, getD}
+use lib.ListN.{length}
 use Rattle.words.specs.Logic.{pick, pick-case}
 use Rattle.words.specs.Edition.{Edition, wide, narrow, W, noLink, enc, W-pos, dec-enc, none-free}
 use Rattle.index.specs.Sizes.{need, needWords}
 use Rattle.index.specs.SizesLaws.{need-le, need-words, need-words-even, need-words-least}
-use Rattle.tiling.specs.Tiling.{Chunk, used, endOf, Starts}
+use Rattle.tiling.specs.Tiling.{used, endOf, Starts}
 use Rattle.rules.specs.BinOf.{huge}
 use Rattle.rules.specs.Heap.{Heap}
 use Rattle.rules.specs.Malloc.{Grant, malloc}
@@ -23,7 +23,7 @@ use Rattle.rules.specs.Memalign.{memalign}
 use Rattle.rules.specs.Calls.{Call, Malloc, Free, Realloc, Memalign, Usable, refused, granted, done, bytes, Outcome, outcome, Reason, no-room, bad-alignment, too-many, not-live, isIn, alignments, blockOf, placeOf, liveSize, grantOr6, movedOr6, freeCall, reallocCall, usableCall, unlessTooMany, answerTo}
 use Rattle.rules.specs.Tidy.{TidyHeap, starts-in′}
 use Rattle.rules.specs.Source.{Source}
-use Rattle.rules.specs.Blocks.{Changes, Granted, Grants}
+use Rattle.rules.specs.Blocks.{Grants}
 use Rattle.rules.specs.MallocLaws.{malloc-grants}
 use Rattle.rules.specs.FreeLaws.{give-changes}
 use Rattle.rules.specs.ReallocLaws.{realloc-grants}
@@ -31,10 +31,9 @@ use Rattle.rules.specs.MemalignLaws.{GrantsAligned, memalign-grants}
 use Rattle.holds.specs.Ops.{state}
 use Rattle.holds.specs.Lookup.{heads-tidy}
 use Rattle.holds.specs.MallocSource.{malloc-source}
-use Rattle.chunk.specs.Bytes.{wrap, less}
 use Rattle.chunk.specs.Image.{decode}
 use Rattle.chunk.specs.Held.{Held}
-use Rattle.malloc.specs.MallocBytes.{Reply, reply, mallocB}
+use Rattle.malloc.specs.MallocBytes.{Reply, mallocB}
 use Rattle.malloc.specs.MallocObeys.{Obeys}
 use Rattle.malloc.specs.MallocFollows.{malloc-obeys}
 use Rattle.free.specs.FreeBytes.{freeB}
@@ -43,7 +42,7 @@ use Rattle.realloc.specs.ReallocBytes.{reallocB}
 use Rattle.realloc.specs.ReallocFollows.{realloc-obeys}
 use Rattle.memalign.specs.MemalignBytes.{memalignB}
 use Rattle.memalign.specs.MemalignObeys.{memalign-obeys}
-use Rattle.sound.specs.SoundBytes.{liveB, usableB}
+use Rattle.sound.specs.SoundBytes.{usableB}
 use Rattle.sound.specs.LiveLaws.{isSome, live-starts, live-is, usable-is}
 use Rattle.calls.specs.CallBytes.{Told, told, refusing, blockAt, chunkAt, grantOrNo, ifLive, ifFew, freed, coreCall}
 

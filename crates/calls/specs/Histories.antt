@@ -3,22 +3,20 @@
 -- swayed by that heap and the number of words alone. Once no block is in use the record is the fresh one, and every later list of calls is
 -- answered as a fresh arena of that length answers it. By `call-obeys`, the check that is exact, and `owner-writes`. Assumes nothing.
 use mathlib.Core.Path.{_≡_, refl, sym, _∙_, ap, subst}
-use mathlib.Core.Bool.{Bool, true, false, _&&_}
 use mathlib.Core.List.{List, [], _∷_}
 use mathlib.Core.Option.{Option, none, some}
 use mathlib.Core.Logic.{⊎-elim}
 use Prim.Native.Nat.{ℕ, _+_, _-_, _*_, _/_, _%_, _≤_, _<_}
 use native.Mathlib.Omega.{arith}
-use lib.Dec.{leb, ltb, eqb}
+use lib.Dec.{ltb}
 use borrow.Author.Tests.{eq-eqb, le-leb, ltb-true}
 use lib.ListN.{length, getD, set, length-set}
 use lib.Seq.{getD-set-other}
 use Rattle.words.specs.Logic.{pick, pick-case}
-use Rattle.words.specs.Edition.{Edition, wide, narrow, W, enc, W-pos}
-use Rattle.tiling.specs.Tiling.{used, Starts}
+use Rattle.words.specs.Edition.{Edition, wide, narrow, W}
 use Rattle.tiling.specs.Steps.{freshWords}
 use Rattle.rules.specs.Heap.{Heap, freshHeap}
-use Rattle.rules.specs.Calls.{Call, Answer, answerTo, allowedCount, blockOf, liveSize}
+use Rattle.rules.specs.Calls.{Call, Answer, answerTo, blockOf, liveSize}
 use Rattle.holds.specs.Holds.{freshControl}
 use Rattle.holds.specs.Governed.{Governed, governed-frame}
 use Rattle.holds.specs.Owner.{OnlyOwned, owner-writes}
@@ -26,10 +24,10 @@ use Rattle.holds.specs.Unique.{NoneInUse, none-in-use, fresh-again}
 use Rattle.chunk.specs.Bytes.{Store, store}
 use Rattle.chunk.specs.Image.{decode}
 use Rattle.chunk.specs.Held.{Held}
-use Rattle.sound.specs.SoundBytes.{soundB, liveB, usableB}
+use Rattle.sound.specs.SoundBytes.{liveB, usableB}
 use Rattle.sound.specs.SoundLaws.{sound-there}
 use Rattle.sound.specs.LiveLaws.{isSome, live-starts, live-is, usable-is}
-use Rattle.calls.specs.CallBytes.{Told, coreCall, callB}
+use Rattle.calls.specs.CallBytes.{coreCall, callB}
 use Rattle.calls.specs.CallObeys.{Follows, call-obeys}
 use Rattle.calls.specs.Stars.{freshImage, fresh-held}
 

@@ -9,7 +9,7 @@ use native.Mathlib.Omega.{arith}
 use lib.Dec.{ltb}
 use borrow.Author.Tests.{ltb-false}
 use lib.ListN.{length}
-use Rattle.words.specs.Logic.{pick, pick-case}
+use Rattle.words.specs.Logic.{pick-case}
 use Rattle.words.specs.Edition.{Edition, wide, narrow, W, enc, dec-enc}
 use Rattle.index.specs.Sizes.{needWords}
 use Rattle.tiling.specs.Tiling.{used, Starts}
@@ -26,7 +26,7 @@ use Rattle.chunk.specs.Bytes.{Store, store}
 use Rattle.chunk.specs.Held.{Held}
 use Rattle.sound.specs.LiveLaws.{Live, live-starts}
 use Rattle.calls.specs.CallObeys.{place-plain, Good, one-of, goods, malloc-blocks, realloc-blocks, memalign-blocks}
-use Rattle.calls.specs.Histories.{Event, asks, writes, writeB, asked, after, answers, heapAfter, HeldIn, calls-held, write-held, setUpOn}
+use Rattle.calls.specs.Histories.{Event, asks, writes, writeB, asked, answers, heapAfter, HeldIn, calls-held, write-held, setUpOn}
 use Rattle.calls.specs.Stars.{fresh-held}
 
 -- the block that a call, where it is not refused, gives back or moves

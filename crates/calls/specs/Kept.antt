@@ -1,27 +1,25 @@
 -- A BLOCK THAT NOBODY NAMES, over whole histories: whatever is asked and written elsewhere, it stays where it is, with its size and its owner's words.
 -- By `call-leaves` at each call; an owner's write in another block lies outside this one, since chunks of one list lie apart. Assumes nothing.
 use mathlib.Core.Path.{_≡_, refl, sym, _∙_, ap, subst}
-use mathlib.Core.Bool.{Bool, true, false}
 use mathlib.Core.List.{List, [], _∷_}
 use mathlib.Core.Option.{Option, none, some}
-use mathlib.Core.Logic.{_⊎_, inl, inr, ⊎-elim}
-use Prim.Native.Nat.{ℕ, _+_, _-_, _*_, _/_, _≤_, _<_}
+use mathlib.Core.Logic.{_⊎_, ⊎-elim}
+use Prim.Native.Nat.{ℕ, _+_, _*_, _/_, _≤_, _<_}
 use native.Mathlib.Omega.{arith}
 use lib.Dec.{ltb}
 use borrow.Author.Tests.{ltb-true}
-use lib.ListN.{length, getD, set}
+use lib.ListN.{length, set}
 use lib.Seq.{getD-set-other}
 use Rattle.words.specs.Logic.{pick, pick-case}
 use Rattle.words.specs.Edition.{Edition, W}
 use Rattle.tiling.specs.Tiling.{used, Starts}
 use Rattle.tiling.specs.Spares.{Spares, spares-refl, spares-trans}
 use Rattle.rules.specs.Heap.{Heap}
-use Rattle.rules.specs.Calls.{Call, answerTo, blockOf, liveSize}
+use Rattle.rules.specs.Calls.{answerTo, blockOf, liveSize}
 use Rattle.rules.specs.Tidy.{starts-apart′}
 use Rattle.chunk.specs.Bytes.{Store, store}
 use Rattle.sound.specs.SoundBytes.{usableB}
 use Rattle.sound.specs.LiveLaws.{isSome, live-starts, live-is, usable-is}
-use Rattle.calls.specs.CallBytes.{callB, coreCall}
 use Rattle.calls.specs.Histories.{Event, asks, writes, writeB, asked, after, heapAfter, HeldIn, let-through, calls-held, word-of, below, write-held}
 use Rattle.calls.specs.Owners.{Names, Left, call-leaves}
 

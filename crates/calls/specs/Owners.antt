@@ -3,13 +3,13 @@
 -- its old words as far as both sizes reach (`resize-keeps`). By the frame law of each function of the core. Assumes nothing.
 use mathlib.Core.Path.{_≡_, refl, sym, _∙_, ap, subst}
 use mathlib.Core.Bool.{Bool, true, false}
-use mathlib.Core.List.{List, [], _∷_}
+use mathlib.Core.List.{List, []}
 use mathlib.Core.Option.{Option, none, some}
-use Prim.Native.Nat.{ℕ, _+_, _-_, _*_, _/_, _≤_}
+use Prim.Native.Nat.{ℕ, _+_, _*_, _/_, _≤_}
 use native.Mathlib.Omega.{arith}
 use lib.Dec.{ltb, eqb}
 use borrow.Author.Tests.{ltb-false}
-use lib.ListN.{length, getD}
+use lib.ListN.{length}
 use Rattle.words.specs.Logic.{pick, pick-case}
 use Rattle.words.specs.Edition.{Edition, W, noLink, enc, dec-enc}
 use Rattle.index.specs.Sizes.{need, needWords}

@@ -13,11 +13,10 @@ use Rattle.rules.specs.Heap.{Heap}
 use Rattle.rules.specs.Malloc.{Grant, malloc}
 use Rattle.rules.specs.Realloc.{resizeHere, front, realloc}
 use Rattle.rules.specs.Memalign.{memalign}
-use Rattle.rules.specs.Lookup.{Block, block}
+use Rattle.rules.specs.Lookup.{Block}
 use Rattle.rules.specs.ReallocLaws.{some-none, refused-exactly}
 use Rattle.rules.specs.MemalignLaws.{memalign-none}
 use Rattle.holds.specs.Ops.{state}
-use Rattle.holds.specs.Lookup.{heads-tidy}
 use Rattle.holds.specs.NoRoom.{Tight, no-room-exactly}
 use Rattle.chunk.specs.Image.{decode}
 use Rattle.chunk.specs.Held.{Held}

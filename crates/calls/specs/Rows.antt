@@ -1,7 +1,7 @@
 -- FOR ANY RECORD, ARENA AND NUMBERS: 1 is said exactly when the word count is not allowed; 2 exactly when it is and the pair is not sound; and whatever is
 -- refused, record and arena are as they were. (Rows 3 to 6 are said of sound pairs: there every answer is the rules', by `call-obeys`.)
 -- By the order of the tests, and the check that is exact. Assumes nothing.
-use mathlib.Core.Path.{_≡_, refl, sym, _∙_, ap}
+use mathlib.Core.Path.{_≡_, refl, sym, _∙_}
 use mathlib.Core.Bool.{Bool, true, false}
 use mathlib.Core.List.{List}
 use mathlib.Core.Logic.{_↔_, _⊎_, inl, inr, ⊎-elim}
@@ -9,7 +9,7 @@ use Prim.Native.Nat.{ℕ, _*_, _≤_, _<_}
 use native.Mathlib.Omega.{arith}
 use lib.Dec.{ltb, eqb}
 use lib.ListN.{length, getD}
-use Rattle.words.specs.Logic.{pick, pick-case, false-true}
+use Rattle.words.specs.Logic.{pick-case, false-true}
 use Rattle.words.specs.Edition.{Edition, W, noLink}
 use Rattle.rules.specs.Calls.{Call, Malloc, Free, Realloc, Memalign, Usable, Reason, bad-count, unsound, bad-alignment, too-many, not-live, no-room, number, Answer, granted, done, bytes, refused, allowedCount, isIn, alignments}
 use Rattle.holds.specs.Holds.{Sound}
@@ -17,7 +17,7 @@ use Rattle.chunk.specs.Image.{decode}
 use Rattle.malloc.specs.MallocBytes.{Reply}
 use Rattle.sound.specs.SoundBytes.{soundB, liveB}
 use Rattle.sound.specs.SoundLaws.{sound-yes, sound-there}
-use Rattle.calls.specs.CallBytes.{Told, told, refusing, grantOrNo, ifLive, ifFew, coreCall, callB}
+use Rattle.calls.specs.CallBytes.{Told, refusing, grantOrNo, coreCall, callB}
 
 -- document 01's number of an answer, 0 where nothing is refused
 abbrev pub refusal : Answer → ℕ

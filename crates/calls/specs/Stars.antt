@@ -17,7 +17,7 @@ use Rattle.holds.specs.Holds.{freshControl, Near}
 use Rattle.holds.specs.Unique.{fresh-holds}
 use Rattle.chunk.specs.Image.{decode}
 use Rattle.chunk.specs.Held.{Held}
-use Rattle.calls.specs.CallBytes.{Told, coreCall}
+use Rattle.calls.specs.CallBytes.{coreCall}
 use Rattle.calls.specs.CallObeys.{Follows, call-obeys}
 
 -- the record's image, the arena's words, and the heap that they hold

@@ -1,2 +1,0 @@
--- What the code leaves at each return, as laws.
-pub mod LendCode
