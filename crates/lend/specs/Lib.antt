@@ -1,0 +1,3 @@
+-- The words of a live block, lent as a part of the arena.
+pub mod LendBytes
+pub mod LendLaws
