@@ -70,5 +70,5 @@ coreCall e r w (Usable off) = ifLive e r w off (told (bytes (usableB e w off)) r
 
 -- ---- rows 1 and 2 come first
 
-abbrev pub callB : Edition → List ℕ → List ℕ → Call → Told
+unfoldable pub callB : Edition → List ℕ → List ℕ → Call → Told
 callB e r w c = pick (allowedCount (length w)) (pick (soundB e r w) (coreCall e r w c) (refusing unsound r w)) (refusing bad-count r w)

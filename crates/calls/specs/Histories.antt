@@ -71,6 +71,7 @@ HeldIn e s h = Held e (s .image) (s .words) h []
 
 -- the check lets a sound pair through
 pub let-through : (e : Edition) (r w : List ℕ) (h : Heap) → Held e r w h [] → (c : Call) → callB e r w c ≡ coreCall e r w c
+unfolding callB
 let-through e r w h n c =
     rw (eq-eqb (length w % 2) 0 (n .near .even), le-leb 16 (length w) (n .near .least), le-leb (length w) 8192 (n .near .most), sound-there e r w (n .image) (h, n .near)) refl
 

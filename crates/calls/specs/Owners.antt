@@ -7,11 +7,11 @@ use mathlib.Core.List.{List, []}
 use mathlib.Core.Option.{Option, none, some}
 use Prim.Native.Nat.{ℕ, _+_, _*_, _/_, _≤_}
 use native.Mathlib.Omega.{arith}
-use lib.Dec.{ltb, eqb}
+use lib.Dec.{ltb}
 use borrow.Author.Tests.{ltb-false}
 use lib.ListN.{length}
-use Rattle.words.specs.Logic.{pick, pick-case}
-use Rattle.words.specs.Edition.{Edition, W, noLink, enc, dec-enc}
+use Rattle.words.specs.Logic.{pick}
+use Rattle.words.specs.Edition.{Edition, W, enc, dec-enc}
 use Rattle.index.specs.Sizes.{need, needWords}
 use Rattle.index.specs.SizesLaws.{need-words}
 use Rattle.tiling.specs.Tiling.{used, Starts}

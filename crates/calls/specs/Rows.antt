@@ -11,7 +11,7 @@ use lib.Dec.{ltb, eqb}
 use lib.ListN.{length, getD}
 use Rattle.words.specs.Logic.{pick-case, false-true}
 use Rattle.words.specs.Edition.{Edition, W, noLink}
-use Rattle.rules.specs.Calls.{Call, Malloc, Free, Realloc, Memalign, Usable, Reason, bad-count, unsound, bad-alignment, too-many, not-live, no-room, Answer, granted, done, bytes, refused, allowedCount, isIn, alignments}
+use Rattle.rules.specs.Calls.{Call, Malloc, Free, Realloc, Memalign, Usable, Reason, bad-count, unsound, Answer, allowedCount, isIn, alignments}
 use Rattle.holds.specs.Holds.{Sound}
 use Rattle.chunk.specs.Image.{decode}
 use Rattle.sound.specs.SoundBytes.{soundB, liveB}
@@ -29,6 +29,7 @@ module _ (e : Edition) (r w : List ℕ) where
   quiet why f = (refl, refl)
 
   pub refusal-changes-nothing : length r ≡ 72 → (c : Call) → Quiet (callB e r w c)
+  unfolding callB
   refusal-changes-nothing l c =
       pick-case Quiet (allowedCount (length w))
       (λ z. pick-case Quiet (soundB e r w) (λ y. let s = sound-yes e r w l y in call-obeys e r w (s .0) (record { image = l; near = s .1 }) c .left) (λ y. quiet unsound))
@@ -59,6 +60,7 @@ module _ (e : Edition) (r w : List ℕ) where
   Count t = refusal (t .answer) ≡ 1 ↔ allowedCount (length w) ≡ false
 
   pub row-1 : (c : Call) → refusal (callB e r w c .answer) ≡ 1 ↔ allowedCount (length w) ≡ false
+  unfolding callB
   row-1 c =
       pick-case Count (allowedCount (length w))
       (λ z. pick-case Count (soundB e r w) (λ y. ((λ q. absurd (later-than 1 (omega arith) (omega arith) (coreCall e r w c) (core-later c) q)), (λ q. clash (allowedCount (length w)) z q)))
@@ -69,6 +71,7 @@ module _ (e : Edition) (r w : List ℕ) where
   Whole t = refusal (t .answer) ≡ 2 ↔ (allowedCount (length w) ≡ true) × (Sound e (decode r) w → ⊥)
 
   pub row-2 : length r ≡ 72 → (c : Call) → refusal (callB e r w c .answer) ≡ 2 ↔ (allowedCount (length w) ≡ true) × (Sound e (decode r) w → ⊥)
+  unfolding callB
   row-2 l c =
       pick-case Whole (allowedCount (length w))
       (λ z. pick-case Whole (soundB e r w)
