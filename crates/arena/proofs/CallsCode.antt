@@ -19,7 +19,7 @@ use Rattle.arena.specs.Answers.{answerOf}
 use Rattle.arena.specs.declared.answers.Answer as A
 use Rattle.arena.specs.declared.answers.Answer.the-variants.{Granted, Done, Bytes, Refused}
 use Rattle.arena.specs.declared.answers.Reason.{Reason}
-use Rattle.arena.proofs.OnImageCode.{count-allowed, count-range}
+use Rattle.calls.specs.Counts.{count-allowed, count-range}
 
 -- a call that was told on the words of c
 pub call-ends : (c : Control) (w : List ℕ) (k : Call) {r r′ w′ : List ℕ} {a b : Answer} {d : Control} → r ≡ image c → told a r′ w′ ≡ callB wide r w k → b ≡ a → d ≡ handedBack a c r′ → ends b d w′ ≡ callA c w k

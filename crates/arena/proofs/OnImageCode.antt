@@ -1,39 +1,26 @@
 -- The calls on the record's words: one law for each return, what the tests and the core have told put together as `callB` says it. Assumes nothing.
-use mathlib.Core.Bool.{Bool, true, false, _&&_}
+use mathlib.Core.Bool.{Bool, true, false}
 use mathlib.Core.List.{List}
 use mathlib.Core.Path.{_≡_, refl, sym, ap, _∙_}
 use mathlib.Core.Logic.{_⊎_, inl, inr, ⊎-elim}
-use Prim.Native.Nat.{ℕ, _+_, _*_, _%_, _^_, _≤_}
+use Prim.Native.Nat.{ℕ, _+_, _*_, _%_, _^_}
 use native.Mathlib.Omega.{arith}
 use native.Mathlib.Nat.{mod-eq-of-lt}
-use lib.Dec.{leb, ltb, eqb}
+use lib.Dec.{ltb}
 use lib.ListN.{length, getD}
-use borrow.Author.Tests.{leb-true, ltb-false, eq-eqb, ne-eqb, not-true, not-false}
-use Rattle.words.specs.Logic.{false-true}
+use borrow.Author.Tests.{ltb-false, eq-eqb, ne-eqb, not-true, not-false}
 use Rattle.words.specs.Edition.{wide, noLink}
 use Rattle.index.specs.Sizes.{need}
 use Rattle.index.specs.SizesLaws.{need-le}
-use Rattle.rules.specs.Calls.{Call, Malloc, Free, Realloc, Memalign, Usable, Answer, granted, done, bytes, refused, bad-count, unsound, bad-alignment, too-many, not-live, no-room, allowedCount, isIn, alignments}
+use Rattle.rules.specs.Calls.{Call, Malloc, Free, Realloc, Memalign, Usable, Answer, granted, done, bytes, refused, bad-count, unsound, bad-alignment, too-many, not-live, no-room, isIn, alignments}
 use Rattle.chunk.specs.Bytes.{wrap, less}
 use Rattle.malloc.specs.MallocBytes.{Reply, reply, mallocB}
 use Rattle.free.specs.FreeBytes.{freeB}
 use Rattle.realloc.specs.ReallocBytes.{reallocB}
 use Rattle.memalign.specs.MemalignBytes.{memalignB}
 use Rattle.sound.specs.SoundBytes.{countOk, soundB, liveB, usableB}
+use Rattle.calls.specs.Counts.{count-allowed, count-range}
 use Rattle.calls.specs.CallBytes.{Told, told, chunkAt, grantOf, grantOrNo, ifLive, ifFew, freed, coreCall, callB}
-
-and-swap : (a b c : Bool) → (a && b) && c ≡ c && (a && b)
-and-swap true true true = refl
-and-swap true true false = refl
-and-swap true false true = refl
-and-swap true false false = refl
-and-swap false b true = refl
-and-swap false b false = refl
-
--- row 1 of the calls is the check's test
-pub count-allowed : (n : ℕ) → countOk n ≡ allowedCount n
-unfolding countOk
-count-allowed n = and-swap (leb 16 n) (leb n 8192) (eqb (n % 2) 0)
 
 module _ (r w : List ℕ) (k : Call) {x : Bool} (e : x ≡ countOk (length w)) where
   pub call-count : x ≡ false → told (refused bad-count) r w ≡ callB wide r w k
@@ -51,17 +38,6 @@ module _ (r w : List ℕ) (k : Call) {x : Bool} (e : x ≡ countOk (length w)) w
 
 pub count-yes : (n : ℕ) {x : Bool} → x ≡ countOk n → x ≡ true → countOk n ≡ true
 count-yes n e q = sym e ∙ q
-
-both : (a b c : Bool) → (a && b) && c ≡ true → (a ≡ true) × (b ≡ true)
-both true true c q = (refl, refl)
-both true false true q = (refl, q)
-both true false false q = (refl, q)
-both false b true q = (q, absurd (false-true q))
-both false b false q = (q, absurd (false-true q))
-
-pub count-range : (n : ℕ) → countOk n ≡ true → (16 ≤ n) × (n ≤ 8192)
-unfolding countOk
-count-range n q = let z = both (leb 16 n) (leb n 8192) (eqb (n % 2) 0) q in (leb-true 16 n (z .0), leb-true n 8192 (z .1))
 
 -- a request that the arena can hold needs a size that does not wrap
 plain-need : (n m : ℕ) → countOk m ≡ true → ltb (8 * m) n ≡ false → need 8 n % 2 ^ 64 ≡ need 8 n

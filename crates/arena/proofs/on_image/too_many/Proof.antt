@@ -1,5 +1,5 @@
 use native.Mathlib.Omega.{arith}
-use Rattle.arena.proofs.OnImageCode.{count-range}
+use Rattle.calls.specs.Counts.{count-range}
 use borrow.Author.Needs.{needs}
 use Rattle.arena.proofs.on_image.too_many.Statement.{statement}
 use Rattle.arena.proofs.on_image.too_many.Tie as tie
