@@ -3,7 +3,7 @@ use mathlib.Core.Bool.{Bool, true, false, _&&_}
 use mathlib.Core.Path.{_≡_, refl}
 use Prim.Native.Nat.{ℕ, _%_, _≤_}
 use lib.Dec.{leb, eqb}
-use borrow.Author.Tests.{leb-true}
+use borrow.Author.Tests.{leb-true, eqb-true}
 use Rattle.words.specs.Logic.{false-true}
 use Rattle.rules.specs.Calls.{allowedCount}
 use Rattle.sound.specs.SoundBytes.{countOk}
@@ -21,13 +21,15 @@ pub count-allowed : (n : ℕ) → countOk n ≡ allowedCount n
 unfolding countOk
 count-allowed n = and-swap (leb 16 n) (leb n 8192) (eqb (n % 2) 0)
 
-both : (a b c : Bool) → (a && b) && c ≡ true → (a ≡ true) × (b ≡ true)
-both true true c q = (refl, refl)
-both true false true q = (refl, q)
-both true false false q = (refl, q)
-both false b true q = (q, absurd (false-true q))
-both false b false q = (q, absurd (false-true q))
+three : (a b c : Bool) → (a && b) && c ≡ true → (a ≡ true) × (b ≡ true) × (c ≡ true)
+three true true true q = (refl, refl, refl)
+three true true false q = absurd (false-true q)
+three true false true q = absurd (false-true q)
+three true false false q = absurd (false-true q)
+three false b true q = absurd (false-true q)
+three false b false q = absurd (false-true q)
 
-pub count-range : (n : ℕ) → countOk n ≡ true → (16 ≤ n) × (n ≤ 8192)
+-- an even number from 16 to 8,192
+pub count-range : (n : ℕ) → countOk n ≡ true → (16 ≤ n) × (n ≤ 8192) × (n % 2 ≡ 0)
 unfolding countOk
-count-range n q = let z = both (leb 16 n) (leb n 8192) (eqb (n % 2) 0) q in (leb-true 16 n (z .0), leb-true n 8192 (z .1))
+count-range n q = let z = three (leb 16 n) (leb n 8192) (eqb (n % 2) 0) q in (leb-true 16 n (z .0), leb-true n 8192 (z .1), eqb-true (n % 2) 0 (z .2))

@@ -1,0 +1,98 @@
+-- DEMAND 3 IS KEPT: after any history the record and the arena hold the rules' heap; a live block is a chunk in use of that heap, and what `calls` shows of
+-- chunks in use over whole histories is said of blocks here. Assumes nothing.
+use mathlib.Core.Path.{_≡_, refl, sym, _∙_, ap, subst}
+use mathlib.Core.Bool.{Bool, true, false}
+use mathlib.Core.List.{List, [], _∷_}
+use mathlib.Core.Option.{Option, none, some}
+use mathlib.Core.Logic.{_↔_, _⊎_, inl, inr, ⊎-elim}
+use Prim.Native.Nat.{ℕ, _+_, _-_, _*_, _/_, _≤_, _<_}
+use native.Mathlib.Omega.{arith}
+use lib.Dec.{ltb}
+use borrow.Author.Tests.{lt-ltb}
+use lib.ListN.{length, getD, set, length-set}
+use lib.Seq.{getD-set-same}
+use Rattle.words.specs.Logic.{pick}
+use Rattle.words.specs.Edition.{wide}
+use Rattle.tiling.specs.Tiling.{Chunk, used, free, endOf, Starts}
+use Rattle.rules.specs.Heap.{Heap, freshHeap}
+use Rattle.rules.specs.Tidy.{starts-in′}
+use Rattle.rules.specs.Calls.{Call, Usable, Answer, bytes, refused, not-live, allowedCount, blockOf, liveSize, usableCall, answerTo}
+use Rattle.holds.specs.Holds.{freshControl}
+use Rattle.holds.specs.Unique.{NoneInUse}
+use Rattle.holds.specs.Lookup.{heads-tidy}
+use Rattle.sound.specs.SoundBytes.{liveB, usableB}
+use Rattle.sound.specs.LiveLaws.{isSome, Live, live-starts, starts-live}
+use Rattle.calls.specs.CallBytes.{refusal}
+use Rattle.calls.specs.Counts.{count-allowed, count-range}
+use Rattle.calls.specs.ByValue.{callA}
+use Rattle.calls.specs.Histories as H
+use Rattle.calls.specs.Histories.{Box, box, Event, asks, writes, writeB, asked, after, answers, heapAfter, HeldIn, calls-held, write-held, live-in, usable-in, word-of, setUpOn, from-set-up}
+use Rattle.calls.specs.InUse as use-of
+use Rattle.calls.specs.InUse.{Ledger}
+use Rattle.calls.specs.Kept.{Untouched, blocks-apart, kept}
+use Rattle.promises.specs.Promises.{LiveAt, then, NoneUnsound}
+use Rattle.promises.specs.RowLaws.{Row, third, fourth, fifth, sixth, served, row-of}
+use Rattle.promises.specs.TheRulesKept.{value}
+
+-- ---- a live block is a chunk in use
+
+-- the block at the offset, of n bytes, is the chunk of `words` words at `at`
+pub record Block (h : Heap) (off n : ℕ) : Type 0 where
+  pub at : ℕ
+  pub words : ℕ
+  pub starts : Starts 0 (h .chunks) at (used words)
+  pub place : off ≡ blockOf wide at
+  pub long : n ≡ 8 * (words - 1)
+
+module _ (s : Box) (h : Heap) (n : HeldIn wide s h) where
+  told : (off : ℕ) → callA wide (s .control) (s .words) (Usable off) .answer ≡ usableCall wide h (liveSize wide 0 (h .chunks) off) off .answer
+  told off = calls-held wide s h n (Usable off) .answer
+
+  pub block-of : (off k : ℕ) → LiveAt s off k → Block h off k
+  block-of off k q = go (liveSize wide 0 (h .chunks) off) refl (sym (told off) ∙ q)
+    where
+      go : (z : Option ℕ) → liveSize wide 0 (h .chunks) off ≡ z → usableCall wide h z off .answer ≡ bytes k → Block h off k
+      go none u y = absurd (let v : 5 ≡ 0 = ap refusal y in let z : ⊥ = omega (arith, v) in z)
+      go (some t) u y =
+          let a = live-starts wide 0 (h .chunks) off t u in record { at = a .0; words = t; starts = a .1; place = a .2; long = sym (ap value y) }
+
+  pub live-at : (x t : ℕ) → Starts 0 (h .chunks) x (used t) → LiveAt s (blockOf wide x) (8 * (t - 1))
+  live-at x t st = told (blockOf wide x) ∙ ap (λ z. usableCall wide h z (blockOf wide x) .answer) (starts-live wide true 0 (h .chunks) x t (heads-tidy wide (s .words) h (n .heads) .chunks) st)
+
+  -- the block at a place that is known
+  pub block-at : (x k : ℕ) → LiveAt s (blockOf wide x) k → (t : ℕ) × Starts 0 (h .chunks) x (used t) × (k ≡ 8 * (t - 1))
+  block-at x k q =
+      let b = block-of (blockOf wide x) k q in
+      let z : b .at ≡ x = omega (arith, b .place) in (b .words, subst (λ (y : ℕ). Starts 0 (h .chunks) y (used (b .words))) z (b .starts), b .long)
+
+  live-is : (off : ℕ) → ((k : ℕ) × LiveAt s off k) ↔ Live wide (h .chunks) off
+  live-is off = (
+    λ u. let b = block-of off (u .0) (u .1) in (b .at, b .words, b .starts, b .place),
+    λ u. (8 * (u .1 - 1), subst (λ (y : ℕ). LiveAt s y (8 * (u .1 - 1))) (sym (u .3)) (live-at (u .0) (u .1) (u .2))),
+  )
+
+  none-live : ((off k : ℕ) → LiveAt s off k → ⊥) → NoneInUse (h .chunks)
+  none-live f = go 0 (h .chunks) (λ x t st. f (blockOf wide x) (8 * (t - 1)) (live-at x t st))
+    where
+      go : (a : ℕ) (cs : List Chunk) → ((x t : ℕ) → Starts a cs x (used t) → ⊥) → NoneInUse cs
+      go a [] g = tt
+      go a (used t ∷ cs) g = g a t (inl (refl, refl))
+      go a (free t ∷ cs) g = go (a + t) cs (λ x u st. g x u (inr st))
+
+-- ---- no call is refused as unsound
+
+late : (m : ℕ) (h : Heap) (k : Call) (n : ℕ) → Row m h k n → (n ≡ 1 → ⊥) × (n ≡ 2 → ⊥)
+late m h k n (third a) = ((λ q. omega (arith, q)), (λ q. omega (arith, q)))
+late m h k n (fourth a b) = ((λ q. omega (arith, q)), (λ q. omega (arith, q)))
+late m h k n (fifth a b c) = ((λ q. omega (arith, q)), (λ q. omega (arith, q)))
+late m h k n (sixth a b c d) = ((λ q. omega (arith, q)), (λ q. omega (arith, q)))
+late m h k n (served a b c d) = ((λ q. omega (arith, q)), (λ q. omega (arith, q)))
+
+none-unsound : (s : Box) (h : Heap) → HeldIn wide s h → (es : List Event) → NoneUnsound (answers wide s es)
+none-unsound s h n [] = tt
+none-unsound s h n (asks k ∷ es) =
+    let f = calls-held wide s h n k in
+    let r = late (length (s .words)) h k (refusal (answerTo wide (length (s .words)) h k .answer)) (row-of (s .control) (s .words) h n k) in
+    let q = subst (λ (a : Answer). (refusal a ≡ 1 → ⊥) × (refusal a ≡ 2 → ⊥)) (sym (f .answer)) r in
+    (q .0, q .1, none-unsound (asked wide s k) (answerTo wide (length (s .words)) h k .heap) (f .held) es)
+none-unsound s h n (writes off i v ∷ es) = none-unsound (box (s .control) (writeB wide s off i v)) h (write-held wide s h n off i v .held) es
