@@ -43,7 +43,7 @@ use Rattle.realloc.specs.ReallocFollows.{realloc-obeys}
 use Rattle.memalign.specs.MemalignBytes.{memalignB}
 use Rattle.memalign.specs.MemalignObeys.{memalign-obeys}
 use Rattle.sound.specs.SoundBytes.{usableB}
-use Rattle.sound.specs.LiveLaws.{isSome, live-starts, live-is, usable-is}
+use Rattle.decides.specs.LiveLaws.{isSome, live-starts, live-is, usable-is}
 use Rattle.calls.specs.CallBytes.{Told, told, refusing, blockAt, chunkAt, grantOrNo, ifLive, ifFew, freed, coreCall}
 
 -- what was told is the rule's outcome, in an arena of n words

@@ -25,8 +25,8 @@ use Rattle.chunk.specs.Bytes.{Store, store}
 use Rattle.chunk.specs.Image.{decode}
 use Rattle.chunk.specs.Held.{Held}
 use Rattle.sound.specs.SoundBytes.{liveB, usableB}
-use Rattle.sound.specs.SoundLaws.{sound-there}
-use Rattle.sound.specs.LiveLaws.{isSome, live-starts, live-is, usable-is}
+use Rattle.decides.specs.SoundLaws.{sound-there}
+use Rattle.decides.specs.LiveLaws.{isSome, live-starts, live-is, usable-is}
 use Rattle.calls.specs.CallBytes.{coreCall, callB}
 use Rattle.calls.specs.CallObeys.{Follows, call-obeys}
 use Rattle.calls.specs.Stars.{freshImage, fresh-held}

@@ -19,7 +19,7 @@ use Rattle.rules.specs.Calls.{answerTo, blockOf, liveSize}
 use Rattle.rules.specs.Tidy.{starts-apart′}
 use Rattle.chunk.specs.Bytes.{Store, store}
 use Rattle.sound.specs.SoundBytes.{usableB}
-use Rattle.sound.specs.LiveLaws.{isSome, live-starts, live-is, usable-is}
+use Rattle.decides.specs.LiveLaws.{isSome, live-starts, live-is, usable-is}
 use Rattle.calls.specs.Histories.{Event, asks, writes, writeB, asked, after, heapAfter, HeldIn, let-through, calls-held, word-of, below, write-held}
 use Rattle.calls.specs.Owners.{Names, Left, call-leaves}
 

@@ -16,7 +16,7 @@ use Rattle.holds.specs.Holds.{Sound}
 use Rattle.chunk.specs.Image.{decode}
 use Rattle.malloc.specs.MallocBytes.{Reply}
 use Rattle.sound.specs.SoundBytes.{soundB, liveB}
-use Rattle.sound.specs.SoundLaws.{sound-yes, sound-there}
+use Rattle.decides.specs.SoundLaws.{sound-yes, sound-there}
 use Rattle.calls.specs.CallBytes.{Told, refusing, grantOrNo, coreCall, callB}
 
 -- document 01's number of an answer, 0 where nothing is refused

@@ -18,8 +18,8 @@ use Rattle.rules.specs.Calls.{blockOf, liveSize}
 use Rattle.holds.specs.Lookup.{run-tidy}
 use Rattle.chunk.specs.Held.{Held}
 use Rattle.sound.specs.SoundBytes.{countOk, soundB, liveB, usableB}
-use Rattle.sound.specs.SoundLaws.{sound-yes, sound-there}
-use Rattle.sound.specs.LiveLaws.{isSome, Live, starts-live, live-is, live-decides, usable-is}
+use Rattle.decides.specs.SoundLaws.{sound-yes, sound-there}
+use Rattle.decides.specs.LiveLaws.{isSome, Live, starts-live, live-is, live-decides, usable-is}
 use Rattle.lend.specs.LendBytes.{lendsB, fitsB, lentFrom, lentWords, lent, back}
 
 -- for all inputs the part lies in the arena

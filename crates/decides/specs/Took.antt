@@ -11,8 +11,8 @@ use Rattle.words.specs.Edition.{Edition, enc, enc-inj}
 use Rattle.words.specs.Fields.{ind, fld}
 use Rattle.chunk.specs.Bytes.{word}
 use Rattle.chunk.specs.Plain.{word-plain}
 use Rattle.sound.specs.Marks.{Checked, no, andThen, takeMark}
-use Rattle.sound.specs.MarksLaws.{inSet, Sized, in-most, sized-take, take-yes, take-there}
+use Rattle.decides.specs.MarksLaws.{inSet, Sized, in-most, sized-take, take-yes, take-there}
 
 abbrev pub Took : Edition → List ℕ → Checked → (ℕ → ℕ) → Type 0
 Took e m r f = (r .ok ≡ true) × Sized (r .marks) × ((y : ℕ) → inSet e (r .marks) y + f y ≡ inSet e m y)

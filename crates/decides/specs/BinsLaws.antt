@@ -22,12 +22,12 @@ use Rattle.holds.specs.Bins.{Bins, sumOf, sum-at}
 use Rattle.holds.specs.Holds.{SmallAt, TrieAt, SmallBins, TreeBins, headLink}
 use Rattle.chunk.specs.Bytes.{Kind, small, tree, linkOf, linkAt}
 use Rattle.chunk.specs.Image.{decode, links, filled, get-link, get-map, part}
 use Rattle.sound.specs.Marks.{Checked, no, noMarks}
 use Rattle.sound.specs.SoundBytes.{turns, bitOk, listOk, smallBinOk, allBins, smallBinsOk, treeOk, treeBinOk, treeBinsOk}
-use Rattle.sound.specs.MarksLaws.{inSet, Sized, sized-none, none-in, fewer}
-use Rattle.sound.specs.Took.{Took, then-yes, took-then, if-yes, took-if}
-use Rattle.sound.specs.ListLaws.{list-yes, list-there}
-use Rattle.sound.specs.TreeLaws.{Allowed, tree-yes, tree-there, sizes-allowed}
+use Rattle.decides.specs.MarksLaws.{inSet, Sized, sized-none, none-in, fewer}
+use Rattle.decides.specs.Took.{Took, then-yes, took-then, if-yes, took-if}
+use Rattle.decides.specs.ListLaws.{list-yes, list-there}
+use Rattle.decides.specs.TreeLaws.{Allowed, tree-yes, tree-there, sizes-allowed}
 
 -- ---- bins one after another: bin i is an A with Q i, of which c counts the places
 

@@ -22,13 +22,13 @@ use Rattle.holds.specs.Holds.{Near, Sound, SpareAt, SmallBins, TreeBins, inDv, 
 use Rattle.holds.specs.Where.{counted, free-head}
 use Rattle.chunk.specs.Bytes.{small, tree}
 use Rattle.chunk.specs.Image.{decode, decode-is, get-map}
 use Rattle.sound.specs.Marks.{Checked, checked, andThen, noMarks, isEmpty}
 use Rattle.sound.specs.SoundBytes.{turns, countOk, topOk, walkHeads, dvOk, smallBinsOk, treeBinsOk, binsOk, recordOk, chunksOk, soundB}
-use Rattle.sound.specs.MarksLaws.{inSet, Sized, and-left, and-right, and-both, sized-none, none-in, empty-in, all-empty}
-use Rattle.sound.specs.Took.{then-yes, took-then}
-use Rattle.sound.specs.BinsLaws.{small-bins-yes, small-bins-there, tree-bins-yes, tree-bins-there}
-use Rattle.sound.specs.TilingLaws.{Tiles, walk-yes, walk-marks, top-yes, top-there}
-use Rattle.sound.specs.SpareLaws.{dv-yes, dv-there}
+use Rattle.decides.specs.MarksLaws.{inSet, Sized, and-left, and-right, and-both, sized-none, none-in, empty-in, all-empty}
+use Rattle.decides.specs.Took.{then-yes, took-then}
+use Rattle.decides.specs.BinsLaws.{small-bins-yes, small-bins-there, tree-bins-yes, tree-bins-there}
+use Rattle.decides.specs.TilingLaws.{Tiles, walk-yes, walk-marks, top-yes, top-there}
+use Rattle.decides.specs.SpareLaws.{dv-yes, dv-there}
 
 -- ---- the numbers
 

@@ -14,10 +14,10 @@ use Rattle.words.specs.Edition.{Edition, noLink, none-free, enc}
 use Rattle.words.specs.Fields.{fld, ind, ind-self, countL}
 use Rattle.lists.specs.Links.{newest, Links, Headed}
 use Rattle.chunk.specs.Bytes.{word}
 use Rattle.sound.specs.Marks.{Checked, no, yes, andThen, takeMark}
 use Rattle.sound.specs.SoundBytes.{headIs, linkedOk, listOk}
-use Rattle.sound.specs.MarksLaws.{inSet, Sized, and-left, and-right, and-both}
-use Rattle.sound.specs.Took.{Took, then-yes, took-then, if-yes, took-if, took-else, took-yes, took-there, word-at}
+use Rattle.decides.specs.MarksLaws.{inSet, Sized, and-left, and-right, and-both}
+use Rattle.decides.specs.Took.{Took, then-yes, took-then, if-yes, took-if, took-else, took-yes, took-there, word-at}
 
 -- what a list that is accepted is: its places, from the link c on
 abbrev pub ListSays : Edition → List ℕ → ℕ → ℕ → ℕ → List ℕ → Checked → Type 0

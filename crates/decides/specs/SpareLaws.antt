@@ -18,10 +18,10 @@ use Rattle.tiling.specs.Free.{freeAt, free-starts}
 use Rattle.holds.specs.Holds.{SpareAt, inDv}
 use Rattle.chunk.specs.Bytes.{word}
 use Rattle.chunk.specs.Plain.{word-plain}
 use Rattle.sound.specs.Marks.{Checked, checked, takeMark, andThen}
 use Rattle.sound.specs.SoundBytes.{headIs, dvOk}
-use Rattle.sound.specs.MarksLaws.{inSet, Sized}
-use Rattle.sound.specs.Took.{Took, then-yes, took-then, took-if, took-else, took-yes, took-there}
+use Rattle.decides.specs.MarksLaws.{inSet, Sized}
+use Rattle.decides.specs.Took.{Took, then-yes, took-then, took-if, took-else, took-yes, took-there}
 
 module _ (e : Edition) (r w m : List ℕ) (cs : List Chunk) (run : Run e w 0 true cs) (sz : Sized m) where
   -- a free chunk's head, at its offset
