@@ -23,7 +23,8 @@ use Rattle.holds.specs.Lookup.{run-tidy}
 use Rattle.chunk.specs.Bytes.{sizeB, cinuseB}
 use Rattle.chunk.specs.Plain.{size-plain, cinuse-plain}
 use Rattle.chunk.specs.Held.{Held, top-at}
-use Rattle.sound.specs.SoundBytes.{turns, startsAt, liveB, usableB}
+use Rattle.marks.specs.Marks.{turns}
+use Rattle.sound.specs.SoundBytes.{startsAt, liveB, usableB}
 use Rattle.decides.specs.TilingLaws.{sum-bytes}
 
 -- ---- the rule's answer, and the blocks

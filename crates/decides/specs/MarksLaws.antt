@@ -21,7 +21,7 @@ use Rattle.index.specs.Bit.{bit}
 use Rattle.index.specs.BinMap.{mark, clear}
 use Rattle.index.specs.BinMapLaws.{mark-same, mark-other, mark-lt, clear-same, clear-other, clear-lt}
 use Rattle.index.specs.Digits.{bit-of-zero, bits-ext}
-use Rattle.sound.specs.Marks.{granule, holdable, hasMark, lacksMark, setMark, dropMark, Checked, yes, no, takeMark, noMarks, emptyFrom, isEmpty}
+use Rattle.marks.specs.Marks.{granule, holdable, hasMark, lacksMark, setMark, dropMark, Checked, yes, no, takeMark, noMarks, emptyFrom, isEmpty}
 
 -- how often the set has the place x: once or never
 abbrev pub inSet : Edition → List ℕ → ℕ → ℕ

@@ -22,8 +22,10 @@ use Rattle.holds.specs.Holds.{Near, Sound, SpareAt, SmallBins, TreeBins, inDv, 
 use Rattle.holds.specs.Where.{counted, free-head}
 use Rattle.chunk.specs.Bytes.{small, tree}
 use Rattle.chunk.specs.Image.{decode, decode-is, get-map}
-use Rattle.sound.specs.Marks.{Checked, checked, andThen, noMarks, isEmpty}
-use Rattle.sound.specs.SoundBytes.{turns, countOk, topOk, walkHeads, dvOk, smallBinsOk, treeBinsOk, binsOk, recordOk, chunksOk, soundB}
+use Rattle.marks.specs.Marks.{Checked, checked, andThen, noMarks, isEmpty, turns}
+use Rattle.tiles.specs.TilesBytes.{topOk, walkHeads}
+use Rattle.bins.specs.BinsBytes.{dvOk, smallBinsOk, treeBinsOk}
+use Rattle.sound.specs.SoundBytes.{countOk, binsOk, recordOk, chunksOk, soundB}
 use Rattle.decides.specs.MarksLaws.{inSet, Sized, and-left, and-right, and-both, sized-none, none-in, empty-in, all-empty}
 use Rattle.decides.specs.Took.{then-yes, took-then}
 use Rattle.decides.specs.BinsLaws.{small-bins-yes, small-bins-there, tree-bins-yes, tree-bins-there}

@@ -19,8 +19,8 @@ use Rattle.tiling.specs.Free.{freeAt}
 use Rattle.chunk.specs.Bytes.{word}
 use Rattle.chunk.specs.Plain.{word-plain}
 use Rattle.chunk.specs.Held.{leb-bytes, ltb-bytes}
-use Rattle.sound.specs.Marks.{Checked, yes, setMark}
-use Rattle.sound.specs.SoundBytes.{headIs, topOk, Step, step, usedFlags, roomFor, chunkAt, walkHeads}
+use Rattle.marks.specs.Marks.{Checked, yes, setMark}
+use Rattle.tiles.specs.TilesBytes.{headIs, topOk, Step, step, usedFlags, roomFor, chunkAt, walkHeads}
 use Rattle.decides.specs.MarksLaws.{inSet, Sized, and-left, and-right, and-both, sized-set, set-there}
 
 -- ---- what a head says, of any size

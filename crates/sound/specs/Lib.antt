@@ -1,3 +1,2 @@
 -- The check: the words level.
-pub mod Marks
 pub mod SoundBytes
