@@ -8,3 +8,4 @@ pub mod Owners
 pub mod Kept
 pub mod InUse
 pub mod Rows
+pub mod Lending
