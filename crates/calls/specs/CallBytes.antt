@@ -7,7 +7,7 @@ use lib.ListN.{length, getD}
 use Rattle.words.specs.Logic.{pick}
 use Rattle.words.specs.Edition.{Edition, W, noLink}
 use Rattle.index.specs.Sizes.{need}
-use Rattle.rules.specs.Calls.{Call, Malloc, Free, Realloc, Memalign, Usable, Reason, bad-count, unsound, bad-alignment, too-many, not-live, no-room, Answer, granted, done, bytes, refused, allowedCount, isIn, alignments}
+use Rattle.rules.specs.Calls.{Call, Malloc, Free, Realloc, Memalign, Usable, Reason, bad-count, unsound, bad-alignment, too-many, not-live, no-room, number, Answer, granted, done, bytes, refused, allowedCount, isIn, alignments}
 use Rattle.chunk.specs.Bytes.{Store, wrap, less}
 use Rattle.malloc.specs.MallocBytes.{Reply, mallocB}
 use Rattle.free.specs.FreeBytes.{freeB}
@@ -26,6 +26,13 @@ told a r w = record { answer = a; image = r; words = w }
 abbrev pub refusing : Reason → List ℕ → List ℕ → Told
 refusing why r w = told (refused why) r w
 
+-- document 01's number of an answer, 0 where nothing is refused
+abbrev pub refusal : Answer → ℕ
+refusal (granted b) = 0
+refusal done = 0
+refusal (bytes n) = 0
+refusal (refused why) = number why
+
 -- "block = chunk + 16", and back
 abbrev pub blockAt : Edition → ℕ → ℕ
 blockAt e c = wrap e (c + 2 * W e)
@@ -35,9 +42,12 @@ chunkAt e off = less e off (2 * W e)
 
 -- ---- rows 3 to 6
 
--- row 6: the core found no chunk
-abbrev pub grantOrNo : Edition → List ℕ → List ℕ → Reply → Told
-grantOrNo e r w a = pick (eqb (a .answer) (noLink e)) (refusing no-room r w) (told (granted (blockAt e (a .answer))) (a .image) (a .words))
+-- row 6: the core found no chunk (and then, on a sound pair, it wrote nothing)
+abbrev pub grantOf : Edition → ℕ → Answer
+grantOf e c = pick (eqb c (noLink e)) (refused no-room) (granted (blockAt e c))
+
+abbrev pub grantOrNo : Edition → Reply → Told
+grantOrNo e a = told (grantOf e (a .answer)) (a .image) (a .words)
 
 -- row 5
 abbrev pub ifLive : Edition → List ℕ → List ℕ → ℕ → Told → Told
@@ -52,13 +62,13 @@ freed s = told done (s .image) (s .words)
 
 -- a call on a record and an arena that were found sound
 abbrev pub coreCall : Edition → List ℕ → List ℕ → Call → Told
-coreCall e r w (Malloc n) = ifFew e r w n (grantOrNo e r w (mallocB e r w (need (W e) n)))
+coreCall e r w (Malloc n) = ifFew e r w n (grantOrNo e (mallocB e r w (need (W e) n)))
 coreCall e r w (Free off) = ifLive e r w off (freed (freeB e r w (chunkAt e off)))
-coreCall e r w (Realloc off n) = ifFew e r w n (ifLive e r w off (grantOrNo e r w (reallocB e r w (chunkAt e off) (need (W e) n))))
-coreCall e r w (Memalign al n) = pick (isIn al (alignments e)) (ifFew e r w n (grantOrNo e r w (memalignB e r w al (need (W e) n)))) (refusing bad-alignment r w)
+coreCall e r w (Realloc off n) = ifFew e r w n (ifLive e r w off (grantOrNo e (reallocB e r w (chunkAt e off) (need (W e) n))))
+coreCall e r w (Memalign al n) = pick (isIn al (alignments e)) (ifFew e r w n (grantOrNo e (memalignB e r w al (need (W e) n)))) (refusing bad-alignment r w)
 coreCall e r w (Usable off) = ifLive e r w off (told (bytes (usableB e w off)) r w)
 
 -- ---- rows 1 and 2 come first
 
-abbrev pub callB : Edition → List ℕ → List ℕ → Call → Told
+unfoldable pub callB : Edition → List ℕ → List ℕ → Call → Told
 callB e r w c = pick (allowedCount (length w)) (pick (soundB e r w) (coreCall e r w c) (refusing unsound r w)) (refusing bad-count r w)

@@ -44,13 +44,14 @@ use Rattle.memalign.specs.MemalignBytes.{memalignB}
 use Rattle.memalign.specs.MemalignObeys.{memalign-obeys}
 use Rattle.sound.specs.SoundBytes.{usableB}
 use Rattle.decides.specs.LiveLaws.{isSome, live-starts, live-is, usable-is}
-use Rattle.calls.specs.CallBytes.{Told, told, refusing, blockAt, chunkAt, grantOrNo, ifLive, ifFew, freed, coreCall}
+use Rattle.calls.specs.CallBytes.{Told, told, refusing, refusal, blockAt, chunkAt, grantOrNo, ifLive, ifFew, freed, coreCall}
 
--- what was told is the rule's outcome, in an arena of n words
-pub record Follows (e : Edition) (n : ℕ) (t : Told) (o : Outcome) : Type 0 where
+-- what was told of r and w is the rule's outcome; a refusal leaves both as they were
+pub record Follows (e : Edition) (r w : List ℕ) (t : Told) (o : Outcome) : Type 0 where
   pub answer : t .answer ≡ o .answer
   pub held : Held e (t .image) (t .words) (o .heap) []
-  pub count : length (t .words) ≡ n
+  pub count : length (t .words) ≡ length w
+  pub left : (refusal (t .answer) ≡ 0 → ⊥) → (t .image ≡ r) × (t .words ≡ w)
 
 -- ---- numbers
 
@@ -93,9 +94,9 @@ goods wide = ((2, refl, omega arith, omega arith), ((4, refl, omega arith, omega
 goods narrow = ((2, refl, omega arith, omega arith), ((4, refl, omega arith, omega arith), ((8, refl, omega arith, omega arith), ((16, refl, omega arith, omega arith), ((32, refl, omega arith, omega arith), ((64, refl, omega arith, omega arith), ((128, refl, omega arith, omega arith), ((256, refl, omega arith, omega arith), ((512, refl, omega arith, omega arith), tt)))))))))
 
 -- two choices by the same test
-by-test : (e : Edition) (n : ℕ) (b : Bool) {t u : Told} {o v : Outcome} → (b ≡ true → Follows e n t o) → (b ≡ false → Follows e n u v) → Follows e n (pick b t u) (pick b o v)
-by-test e n true f g = f refl
-by-test e n false f g = g refl
+by-test : (e : Edition) (r w : List ℕ) (b : Bool) {t u : Told} {o v : Outcome} → (b ≡ true → Follows e r w t o) → (b ≡ false → Follows e r w u v) → Follows e r w (pick b t u) (pick b o v)
+by-test e r w true f g = f refl
+by-test e r w false f g = g refl
 
 module _ (e : Edition) (r w : List ℕ) (h : Heap) (n : Held e r w h []) where
   tidy : TidyHeap h
@@ -105,36 +106,36 @@ module _ (e : Edition) (r w : List ℕ) (h : Heap) (n : Held e r w h []) where
   same-count r′ w′ h′ n′ q = omega (arith, n .near .heads .top .ends, n′ .near .heads .top .ends, q)
 
   -- a refusal
-  stays : (why : Reason) → Follows e (length w) (refusing why r w) (outcome (refused why) h 0)
-  stays why = record { answer = refl; held = n; count = refl }
+  stays : (why : Reason) → Follows e r w (refusing why r w) (outcome (refused why) h 0)
+  stays why = record { answer = refl; held = n; count = refl; left = λ f. (refl, refl) }
 
   -- ---- a grant, or 6
 
-  grants : (a : Reply) (o : Option Grant) (lo hi : ℕ) (gone : ℕ → Type 0) → Obeys e r w a o → Grants h lo hi gone o → Follows e (length w) (grantOrNo e r w a) (grantOr6 e h o)
-  grants a none lo hi gone f g = rw (ap (λ (x : Reply). x .answer) f, eq-eqb (noLink e) (noLink e) refl) (stays no-room)
+  grants : (a : Reply) (o : Option Grant) (lo hi : ℕ) (gone : ℕ → Type 0) → Obeys e r w a o → Grants h lo hi gone o → Follows e r w (grantOrNo e a) (grantOr6 e h o)
+  grants a none lo hi gone f g = subst (λ (x : Reply). Follows e r w (grantOrNo e x) (grantOr6 e h none)) (sym f) (rw (eq-eqb (noLink e) (noLink e) refl) (stays no-room))
   grants a (some k) lo hi gone f g =
       let b = same-count (a .image) (a .words) (k .heap) (f .1) (g .changes .total) in
       let c = starts-in′ 0 (k .heap .chunks) (k .place) (used (g .words)) (g .block) in
       rw (f .0, ne-eqb (enc e (k .place)) (noLink e) (none-free e (k .place)))
-      (record { answer = ap granted (block-plain e (k .place) (omega (arith, c, f .1 .near .heads .top .ends, f .1 .near .most))); held = f .1; count = b })
+      (record { answer = ap granted (block-plain e (k .place) (omega (arith, c, f .1 .near .heads .top .ends, f .1 .near .most))); held = f .1; count = b; left = λ z. absurd (z refl) })
 
-  moves : (t : Told) (p s : ℕ) (o : Option Grant) → Follows e (length w) t (grantOr6 e h o) → Follows e (length w) t (movedOr6 e h p s o)
+  moves : (t : Told) (p s : ℕ) (o : Option Grant) → Follows e r w t (grantOr6 e h o) → Follows e r w t (movedOr6 e h p s o)
   moves t p s none f = f
-  moves t p s (some g) f = record { answer = f .answer; held = f .held; count = f .count }
+  moves t p s (some g) f = record { answer = f .answer; held = f .held; count = f .count; left = f .left }
 
   -- ---- rows 4 and 5
 
-  few : (k : ℕ) (t : Told) (o : Outcome) → (k ≤ W e * length w → Follows e (length w) t o) → Follows e (length w) (ifFew e r w k t) (unlessTooMany e (length w) h k o)
-  few k t o f = by-test e (length w) (ltb (W e * length w) k) (λ z. stays too-many) (λ z. f (ltb-false (W e * length w) k z))
+  few : (k : ℕ) (t : Told) (o : Outcome) → (k ≤ W e * length w → Follows e r w t o) → Follows e r w (ifFew e r w k t) (unlessTooMany e (length w) h k o)
+  few k t o f = by-test e r w (ltb (W e * length w) k) (λ z. stays too-many) (λ z. f (ltb-false (W e * length w) k z))
 
   -- the rule's outcome of a live block of s words at p, of one that is not
   live : (off : ℕ) (t : Told) (o : Option ℕ → Outcome) → o none ≡ outcome (refused (not-live off)) h 0
-      → ((p s : ℕ) → liveSize e 0 (h .chunks) off ≡ some s → Starts 0 (h .chunks) p (used s) → off ≡ blockOf e p → Follows e (length w) t (o (some s)))
-      → Follows e (length w) (ifLive e r w off t) (o (liveSize e 0 (h .chunks) off))
+      → ((p s : ℕ) → liveSize e 0 (h .chunks) off ≡ some s → Starts 0 (h .chunks) p (used s) → off ≡ blockOf e p → Follows e r w t (o (some s)))
+      → Follows e r w (ifLive e r w off t) (o (liveSize e 0 (h .chunks) off))
   live off t o q f = rw (live-is e r w h n off) (go (liveSize e 0 (h .chunks) off) refl)
     where
-      go : (z : Option ℕ) → liveSize e 0 (h .chunks) off ≡ z → Follows e (length w) (pick (isSome z) t (refusing (not-live off) r w)) (o z)
-      go none u = subst (λ y. Follows e (length w) (refusing (not-live off) r w) y) (sym q) (stays (not-live off))
+      go : (z : Option ℕ) → liveSize e 0 (h .chunks) off ≡ z → Follows e r w (pick (isSome z) t (refusing (not-live off) r w)) (o z)
+      go none u = subst (λ y. Follows e r w (refusing (not-live off) r w) y) (sym q) (stays (not-live off))
       go (some s) u = let a = live-starts e 0 (h .chunks) off s u in f (a .0) s u (a .1) (a .2)
 
   pub place-low : (p s : ℕ) → Starts 0 (h .chunks) p (used s) → p ≤ 8192
@@ -179,39 +180,39 @@ module _ (e : Edition) (r w : List ℕ) (h : Heap) (n : Held e r w h []) where
         plain none a = tt
         plain (some b) a = a .0
 
-    malloc-call : Follows e (length w) (grantOrNo e r w (mallocB e r w (need (W e) k))) (grantOr6 e h (malloc e h nb))
+    malloc-call : Follows e r w (grantOrNo e (mallocB e r w (need (W e) k))) (grantOr6 e h (malloc e h nb))
     malloc-call = rw (need-words (W e) k) (grants (mallocB e r w (enc e nb)) (malloc e h nb) nb (nb + 4) (λ x. ⊥) (malloc-obeys e r w h n nb even least low) malloc-blocks)
 
-    memalign-call : (al : ℕ) → Good e al → Follows e (length w) (grantOrNo e r w (memalignB e r w al (need (W e) k))) (grantOr6 e h (memalign e h (al / W e) nb))
+    memalign-call : (al : ℕ) → Good e al → Follows e r w (grantOrNo e (memalignB e r w al (need (W e) k))) (grantOr6 e h (memalign e h (al / W e) nb))
     memalign-call al g =
         rw (need-words (W e) k, g .1, dec-enc e (2 * g .0))
         (grants (memalignB e r w (enc e (2 * g .0)) (enc e nb)) (memalign e h (2 * g .0) nb) nb (nb + 5) (λ x. ⊥)
         (memalign-obeys e r w h (2 * g .0) (g .0) nb n refl (omega (arith, g .2)) (omega (arith, g .3)) even least (big (g .0) (g .3))) (memalign-blocks (g .0) (g .2) (g .3)))
 
-    realloc-call : (p s : ℕ) → Starts 0 (h .chunks) p (used s) → Follows e (length w) (grantOrNo e r w (reallocB e r w (enc e p) (need (W e) k))) (grantOr6 e h (realloc e h p nb))
+    realloc-call : (p s : ℕ) → Starts 0 (h .chunks) p (used s) → Follows e r w (grantOrNo e (reallocB e r w (enc e p) (need (W e) k))) (grantOr6 e h (realloc e h p nb))
     realloc-call p s st =
         rw (need-words (W e) k)
         (grants (reallocB e r w (enc e p) (enc e nb)) (realloc e h p nb) nb (nb + 4) (λ x. x ≡ p) (realloc-obeys e r w h n p s nb st even least low) (realloc-blocks p s st))
 
-  free-call : (p s : ℕ) → Starts 0 (h .chunks) p (used s) → Follows e (length w) (freed (freeB e r w (enc e p))) (outcome done (giveBack e h p) 0)
+  free-call : (p s : ℕ) → Starts 0 (h .chunks) p (used s) → Follows e r w (freed (freeB e r w (enc e p))) (outcome done (giveBack e h p) 0)
   free-call p s st =
       let f = free-obeys e r w h n s p st in
-      record { answer = refl; held = f; count = same-count (freeB e r w (enc e p) .image) (freeB e r w (enc e p) .words) (giveBack e h p) f (give-changes e h p s tidy st .total) }
+      record { answer = refl; held = f; count = same-count (freeB e r w (enc e p) .image) (freeB e r w (enc e p) .words) (giveBack e h p) f (give-changes e h p s tidy st .total); left = λ z. absurd (z refl) }
 
-  pub call-obeys : (c : Call) → Follows e (length w) (coreCall e r w c) (answerTo e (length w) h c)
-  call-obeys (Malloc k) = few k (grantOrNo e r w (mallocB e r w (need (W e) k))) (grantOr6 e h (malloc e h (needWords (W e) k))) (λ l. malloc-call k l)
+  pub call-obeys : (c : Call) → Follows e r w (coreCall e r w c) (answerTo e (length w) h c)
+  call-obeys (Malloc k) = few k (grantOrNo e (mallocB e r w (need (W e) k))) (grantOr6 e h (malloc e h (needWords (W e) k))) (λ l. malloc-call k l)
   call-obeys (Free off) =
       live off (freed (freeB e r w (chunkAt e off))) (λ z. freeCall e h z off) refl
       (λ p s u st q. rw (q, chunk-plain e p (place-low p s st), place-plain e p) (free-call p s st))
   call-obeys (Realloc off k) =
-      few k (ifLive e r w off (grantOrNo e r w (reallocB e r w (chunkAt e off) (need (W e) k)))) (reallocCall e h (liveSize e 0 (h .chunks) off) off k)
-      (λ l. live off (grantOrNo e r w (reallocB e r w (chunkAt e off) (need (W e) k))) (λ z. reallocCall e h z off k) refl
+      few k (ifLive e r w off (grantOrNo e (reallocB e r w (chunkAt e off) (need (W e) k)))) (reallocCall e h (liveSize e 0 (h .chunks) off) off k)
+      (λ l. live off (grantOrNo e (reallocB e r w (chunkAt e off) (need (W e) k))) (λ z. reallocCall e h z off k) refl
       (λ p s u st q. rw (q, chunk-plain e p (place-low p s st), place-plain e p)
-      (moves (grantOrNo e r w (reallocB e r w (enc e p) (need (W e) k))) p s (realloc e h p (needWords (W e) k)) (realloc-call k l p s st))))
+      (moves (grantOrNo e (reallocB e r w (enc e p) (need (W e) k))) p s (realloc e h p (needWords (W e) k)) (realloc-call k l p s st))))
   call-obeys (Memalign al k) =
-      by-test e (length w) (isIn al (alignments e))
-      (λ z. few k (grantOrNo e r w (memalignB e r w al (need (W e) k))) (grantOr6 e h (memalign e h (al / W e) (needWords (W e) k))) (λ l. memalign-call k l al (one-of (Good e) al (alignments e) z (goods e))))
+      by-test e r w (isIn al (alignments e))
+      (λ z. few k (grantOrNo e (memalignB e r w al (need (W e) k))) (grantOr6 e h (memalign e h (al / W e) (needWords (W e) k))) (λ l. memalign-call k l al (one-of (Good e) al (alignments e) z (goods e))))
       (λ z. stays bad-alignment)
   call-obeys (Usable off) =
       live off (told (bytes (usableB e w off)) r w) (λ z. usableCall e h z off) refl
-      (λ p s u st q. record { answer = ap bytes (usable-is e r w h n off s u); held = n; count = refl })
+      (λ p s u st q. record { answer = ap bytes (usable-is e r w h n off s u); held = n; count = refl; left = λ f. (refl, refl) })

@@ -71,10 +71,11 @@ HeldIn e s h = Held e (s .image) (s .words) h []
 
 -- the check lets a sound pair through
 pub let-through : (e : Edition) (r w : List ℕ) (h : Heap) → Held e r w h [] → (c : Call) → callB e r w c ≡ coreCall e r w c
+unfolding callB
 let-through e r w h n c =
     rw (eq-eqb (length w % 2) 0 (n .near .even), le-leb 16 (length w) (n .near .least), le-leb (length w) 8192 (n .near .most), sound-there e r w (n .image) (h, n .near)) refl
 
-pub calls-held : (e : Edition) (s : Store) (h : Heap) → HeldIn e s h → (c : Call) → Follows e (length (s .words)) (callB e (s .image) (s .words) c) (answerTo e (length (s .words)) h c)
+pub calls-held : (e : Edition) (s : Store) (h : Heap) → HeldIn e s h → (c : Call) → Follows e (s .image) (s .words) (callB e (s .image) (s .words) c) (answerTo e (length (s .words)) h c)
 calls-held e s h n c = rw (let-through e (s .image) (s .words) h n c) (call-obeys e (s .image) (s .words) h n c)
 
 -- word k of a block of s words at p is one of the owner's

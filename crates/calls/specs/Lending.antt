@@ -1,35 +1,21 @@
 -- LENDING SAYS WHAT THE CALL FOR THE USABLE SIZE SAYS. For any record, words and offset: the words of a block are lent exactly when that call is not refused,
 -- and the part has exactly the bytes that it answers; where it is refused, the part is empty. By the three tests, which are the same and stand in
 -- the same order, and the laws of lending. Both editions. Assumes nothing.
-use mathlib.Core.Path.{_≡_, refl, subst, ap, _∙_}
+use mathlib.Core.Path.{_≡_, refl, sym, subst, ap, _∙_}
 use mathlib.Core.Bool.{Bool, true, false, _&&_}
 use mathlib.Core.List.{List}
 use mathlib.Core.Logic.{_↔_}
-use Prim.Native.Nat.{ℕ, zero, suc, _*_, _%_, _<_}
+use Prim.Native.Nat.{ℕ, zero, suc, _*_, _<_}
 use native.Mathlib.Omega.{arith}
-use lib.Dec.{leb, eqb}
 use lib.ListN.{length, getD}
 use Rattle.words.specs.Logic.{pick, false-true, Decides}
 use Rattle.words.specs.Edition.{Edition, W}
 use Rattle.rules.specs.Calls.{Usable, bad-count, unsound, not-live, bytes, allowedCount}
-use Rattle.sound.specs.SoundBytes.{countOk, soundB, liveB, usableB}
+use Rattle.sound.specs.SoundBytes.{soundB, liveB, usableB}
 use Rattle.lend.specs.LendBytes.{lendsB, lentWords}
 use Rattle.lend.specs.LendLaws.{lends-usable, lent-decides}
-use Rattle.calls.specs.CallBytes.{Told, told, refusing, callB}
-use Rattle.calls.specs.Rows.{refusal}
-
--- the two tests of the word count are one
-pub count-same : (n : ℕ) → allowedCount n ≡ countOk n
-unfolding countOk
-count-same n = go (leb 16 n) (leb n 8192) (eqb (n % 2) 0)
-  where
-    go : (a b c : Bool) → c && (a && b) ≡ a && b && c
-    go true true true = refl
-    go true true false = refl
-    go true false true = refl
-    go true false false = refl
-    go false b true = refl
-    go false b false = refl
+use Rattle.calls.specs.CallBytes.{Told, told, refusing, refusal, callB}
+use Rattle.calls.specs.Counts.{count-allowed}
 
 module _ (e : Edition) (r w : List ℕ) (off : ℕ) where
   -- what the call says after its tests of the count, the pair and the block
@@ -49,15 +35,15 @@ module _ (e : Edition) (r w : List ℕ) (off : ℕ) where
   says false b c q = false-true q
 
   pub lend-as-usable : lendsB e r w off ≡ true ↔ refusal (callB e r w (Usable off) .answer) ≡ 0
-  unfolding lendsB
+  unfolding lendsB callB
   lend-as-usable =
-      subst (λ (a : Bool). a && soundB e r w && liveB e w (getD r 4 0) off ≡ true ↔ refusal (callB e r w (Usable off) .answer) ≡ 0) (count-same (length w))
+      subst (λ (a : Bool). a && soundB e r w && liveB e w (getD r 4 0) off ≡ true ↔ refusal (callB e r w (Usable off) .answer) ≡ 0) (sym (count-allowed (length w)))
       (passes (allowedCount (length w)) (soundB e r w) (liveB e w (getD r 4 0) off))
 
   usable-said : lendsB e r w off ≡ true → callB e r w (Usable off) .answer ≡ bytes (usableB e w off)
-  unfolding lendsB
+  unfolding lendsB callB
   usable-said =
-      subst (λ (a : Bool). a && soundB e r w && liveB e w (getD r 4 0) off ≡ true → callB e r w (Usable off) .answer ≡ bytes (usableB e w off)) (count-same (length w))
+      subst (λ (a : Bool). a && soundB e r w && liveB e w (getD r 4 0) off ≡ true → callB e r w (Usable off) .answer ≡ bytes (usableB e w off)) (sym (count-allowed (length w)))
       (says (allowedCount (length w)) (soundB e r w) (liveB e w (getD r 4 0) off))
 
   module _ (q : length r ≡ 72) where

@@ -7,11 +7,11 @@ use mathlib.Core.List.{List, []}
 use mathlib.Core.Option.{Option, none, some}
 use Prim.Native.Nat.{ℕ, _+_, _*_, _/_, _≤_}
 use native.Mathlib.Omega.{arith}
-use lib.Dec.{ltb, eqb}
+use lib.Dec.{ltb}
 use borrow.Author.Tests.{ltb-false}
 use lib.ListN.{length}
-use Rattle.words.specs.Logic.{pick, pick-case}
-use Rattle.words.specs.Edition.{Edition, W, noLink, enc, dec-enc}
+use Rattle.words.specs.Logic.{pick}
+use Rattle.words.specs.Edition.{Edition, W, enc, dec-enc}
 use Rattle.index.specs.Sizes.{need, needWords}
 use Rattle.index.specs.SizesLaws.{need-words}
 use Rattle.tiling.specs.Tiling.{used, Starts}
@@ -60,8 +60,8 @@ module _ (e : Edition) (r w : List ℕ) (h : Heap) (n : Held e r w h []) (x s : 
   same t o p q = record { stays = subst (λ (z : Heap). Starts 0 (z .chunks) x (used s)) (sym q) st; words = subst (Spares x s w) (sym p) (spares-refl x s w) }
 
   -- what a grant's words spare, and what the rule keeps
-  grants : (a : Reply) (o : Option Grant) (lo hi : ℕ) (gone : ℕ → Type 0) → Spares x s w (a .words) → Grants h lo hi gone o → (gone x → ⊥) → Left x s w (grantOrNo e r w a) (grantOr6 e h o)
-  grants a o lo hi gone f g ng = record { stays = stays o g; words = pick-case (λ (t : Told). Spares x s w (t .words)) (eqb (a .answer) (noLink e)) (λ _. spares-refl x s w) (λ _. f) }
+  grants : (a : Reply) (o : Option Grant) (lo hi : ℕ) (gone : ℕ → Type 0) → Spares x s w (a .words) → Grants h lo hi gone o → (gone x → ⊥) → Left x s w (grantOrNo e a) (grantOr6 e h o)
+  grants a o lo hi gone f g ng = record { stays = stays o g; words = f }
     where
       stays : (o : Option Grant) → Grants h lo hi gone o → Starts 0 (grantOr6 e h o .heap .chunks) x (used s)
       stays none g = st
@@ -87,18 +87,18 @@ module _ (e : Edition) (r w : List ℕ) (h : Heap) (n : Held e r w h []) (x s : 
     abbrev nb : ℕ
     nb = needWords (W e) k
 
-    malloc-left : Left x s w (grantOrNo e r w (mallocB e r w (need (W e) k))) (grantOr6 e h (malloc e h nb))
+    malloc-left : Left x s w (grantOrNo e (mallocB e r w (need (W e) k))) (grantOr6 e h (malloc e h nb))
     malloc-left =
         rw (need-words (W e) k)
         (grants (mallocB e r w (enc e nb)) (malloc e h nb) nb (nb + 4) (λ z. ⊥) (malloc-spares e r w h n nb (even e r w h n k fit) (least e r w h n k fit) (low e r w h n k fit) x s st) (malloc-blocks e r w h n k fit) (λ z. z))
 
-    realloc-left : (p u : ℕ) → Starts 0 (h .chunks) p (used u) → (x ≡ p → ⊥) → Left x s w (grantOrNo e r w (reallocB e r w (enc e p) (need (W e) k))) (grantOr6 e h (realloc e h p nb))
+    realloc-left : (p u : ℕ) → Starts 0 (h .chunks) p (used u) → (x ≡ p → ⊥) → Left x s w (grantOrNo e (reallocB e r w (enc e p) (need (W e) k))) (grantOr6 e h (realloc e h p nb))
     realloc-left p u sp ne =
         rw (need-words (W e) k)
         (grants (reallocB e r w (enc e p) (enc e nb)) (realloc e h p nb) nb (nb + 4) (λ z. z ≡ p)
         (realloc-spares e r w h n p u nb sp (even e r w h n k fit) (least e r w h n k fit) (low e r w h n k fit) x s st ne) (realloc-blocks e r w h n k fit p u sp) ne)
 
-    memalign-left : (al : ℕ) → Good e al → Left x s w (grantOrNo e r w (memalignB e r w al (need (W e) k))) (grantOr6 e h (memalign e h (al / W e) nb))
+    memalign-left : (al : ℕ) → Good e al → Left x s w (grantOrNo e (memalignB e r w al (need (W e) k))) (grantOr6 e h (memalign e h (al / W e) nb))
     memalign-left al g =
         rw (need-words (W e) k, g .1, dec-enc e (2 * g .0))
         (grants (memalignB e r w (enc e (2 * g .0)) (enc e nb)) (memalign e h (2 * g .0) nb) nb (nb + 5) (λ z. ⊥)
@@ -109,18 +109,18 @@ module _ (e : Edition) (r w : List ℕ) (h : Heap) (n : Held e r w h []) (x s : 
   apart off p ne q z = ne (q ∙ ap (blockOf e) (sym z))
 
   pub call-leaves : (c : Call) → (Names e c x → ⊥) → Left x s w (coreCall e r w c) (answerTo e (length w) h c)
-  call-leaves (Malloc k) ne = few k (grantOrNo e r w (mallocB e r w (need (W e) k))) (grantOr6 e h (malloc e h (needWords (W e) k))) (λ l. malloc-left k l)
+  call-leaves (Malloc k) ne = few k (grantOrNo e (mallocB e r w (need (W e) k))) (grantOr6 e h (malloc e h (needWords (W e) k))) (λ l. malloc-left k l)
   call-leaves (Free off) ne =
       live off (freed (freeB e r w (chunkAt e off))) (λ z. freeCall e h z off) refl
       (λ p u sp q. rw (q, chunk-plain e p (place-low e r w h n p u sp), place-plain e p)
       (record { stays = give-changes e h p u (heads-tidy e w h (n .near .heads)) sp .kept x s st (apart off p ne q); words = free-spares e r w h n p u sp x s st (apart off p ne q) }))
   call-leaves (Realloc off k) ne =
-      few k (ifLive e r w off (grantOrNo e r w (reallocB e r w (chunkAt e off) (need (W e) k)))) (reallocCall e h (liveSize e 0 (h .chunks) off) off k)
-      (λ l. live off (grantOrNo e r w (reallocB e r w (chunkAt e off) (need (W e) k))) (λ z. reallocCall e h z off k) refl
+      few k (ifLive e r w off (grantOrNo e (reallocB e r w (chunkAt e off) (need (W e) k)))) (reallocCall e h (liveSize e 0 (h .chunks) off) off k)
+      (λ l. live off (grantOrNo e (reallocB e r w (chunkAt e off) (need (W e) k))) (λ z. reallocCall e h z off k) refl
       (λ p u sp q. rw (q, chunk-plain e p (place-low e r w h n p u sp), place-plain e p)
-      (moves (grantOrNo e r w (reallocB e r w (enc e p) (need (W e) k))) p u (realloc e h p (needWords (W e) k)) (realloc-left k l p u sp (apart off p ne q)))))
+      (moves (grantOrNo e (reallocB e r w (enc e p) (need (W e) k))) p u (realloc e h p (needWords (W e) k)) (realloc-left k l p u sp (apart off p ne q)))))
   call-leaves (Memalign al k) ne =
       by-test x s w (isIn al (alignments e))
-      (λ z. few k (grantOrNo e r w (memalignB e r w al (need (W e) k))) (grantOr6 e h (memalign e h (al / W e) (needWords (W e) k))) (λ l. memalign-left k l al (one-of (Good e) al (alignments e) z (goods e))))
+      (λ z. few k (grantOrNo e (memalignB e r w al (need (W e) k))) (grantOr6 e h (memalign e h (al / W e) (needWords (W e) k))) (λ l. memalign-left k l al (one-of (Good e) al (alignments e) z (goods e))))
       (λ z. same _ _ refl refl)
   call-leaves (Usable off) ne = live off _ (λ z. usableCall e h z off) refl (λ p u sp q. same _ _ refl refl)

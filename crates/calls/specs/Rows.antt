@@ -1,6 +1,6 @@
 -- FOR ANY RECORD, ARENA AND NUMBERS: 1 is said exactly when the word count is not allowed; 2 exactly when it is and the pair is not sound; and whatever is
 -- refused, record and arena are as they were. (Rows 3 to 6 are said of sound pairs: there every answer is the rules', by `call-obeys`.)
--- By the order of the tests, and the check that is exact. Assumes nothing.
+-- By the order of the tests, the check that is exact, and what each call does on a sound pair. Assumes nothing.
 use mathlib.Core.Path.{_≡_, refl, sym, _∙_}
 use mathlib.Core.Bool.{Bool, true, false}
 use mathlib.Core.List.{List}
@@ -11,20 +11,13 @@ use lib.Dec.{ltb, eqb}
 use lib.ListN.{length, getD}
 use Rattle.words.specs.Logic.{pick-case, false-true}
 use Rattle.words.specs.Edition.{Edition, W, noLink}
-use Rattle.rules.specs.Calls.{Call, Malloc, Free, Realloc, Memalign, Usable, Reason, bad-count, unsound, bad-alignment, too-many, not-live, no-room, number, Answer, granted, done, bytes, refused, allowedCount, isIn, alignments}
+use Rattle.rules.specs.Calls.{Call, Malloc, Free, Realloc, Memalign, Usable, Reason, bad-count, unsound, Answer, allowedCount, isIn, alignments}
 use Rattle.holds.specs.Holds.{Sound}
 use Rattle.chunk.specs.Image.{decode}
-use Rattle.malloc.specs.MallocBytes.{Reply}
 use Rattle.sound.specs.SoundBytes.{soundB, liveB}
 use Rattle.decides.specs.SoundLaws.{sound-yes, sound-there}
-use Rattle.calls.specs.CallBytes.{Told, refusing, grantOrNo, coreCall, callB}
-
--- document 01's number of an answer, 0 where nothing is refused
-abbrev pub refusal : Answer → ℕ
-refusal (granted b) = 0
-refusal done = 0
-refusal (bytes n) = 0
-refusal (refused why) = number why
+use Rattle.calls.specs.CallBytes.{Told, refusing, refusal, grantOf, coreCall, callB}
+use Rattle.calls.specs.CallObeys.{call-obeys}
 
 -- ---- a refusal changes nothing
 
@@ -35,28 +28,20 @@ module _ (e : Edition) (r w : List ℕ) where
   quiet : (why : Reason) → Quiet (refusing why r w)
   quiet why f = (refl, refl)
 
-  granting : (a : Reply) → Quiet (grantOrNo e r w a)
-  granting a = pick-case Quiet (eqb (a .answer) (noLink e)) (λ z. quiet no-room) (λ z f. absurd (f refl))
-
-  pub core-quiet : (c : Call) → Quiet (coreCall e r w c)
-  core-quiet (Malloc n) = pick-case Quiet (ltb (W e * length w) n) (λ z. quiet too-many) (λ z. granting _)
-  core-quiet (Free off) = pick-case Quiet (liveB e w (getD r 4 0) off) (λ z f. absurd (f refl)) (λ z. quiet (not-live off))
-  core-quiet (Realloc off n) =
-      pick-case Quiet (ltb (W e * length w) n) (λ z. quiet too-many) (λ z. pick-case Quiet (liveB e w (getD r 4 0) off) (λ y. granting _) (λ y. quiet (not-live off)))
-  core-quiet (Memalign al n) =
-      pick-case Quiet (isIn al (alignments e)) (λ z. pick-case Quiet (ltb (W e * length w) n) (λ y. quiet too-many) (λ y. granting _)) (λ z. quiet bad-alignment)
-  core-quiet (Usable off) = pick-case Quiet (liveB e w (getD r 4 0) off) (λ z f. absurd (f refl)) (λ z. quiet (not-live off))
-
-  pub refusal-changes-nothing : (c : Call) → Quiet (callB e r w c)
-  refusal-changes-nothing c = pick-case Quiet (allowedCount (length w)) (λ z. pick-case Quiet (soundB e r w) (λ y. core-quiet c) (λ y. quiet unsound)) (λ z. quiet bad-count)
+  pub refusal-changes-nothing : length r ≡ 72 → (c : Call) → Quiet (callB e r w c)
+  unfolding callB
+  refusal-changes-nothing l c =
+      pick-case Quiet (allowedCount (length w))
+      (λ z. pick-case Quiet (soundB e r w) (λ y. let s = sound-yes e r w l y in call-obeys e r w (s .0) (record { image = l; near = s .1 }) c .left) (λ y. quiet unsound))
+      (λ z. quiet bad-count)
 
   -- ---- rows 1 and 2 are said by nothing else
 
   abbrev Later : Told → Type 0
   Later t = (refusal (t .answer) ≡ 0) ⊎ (3 ≤ refusal (t .answer))
 
-  grant-later : (a : Reply) → Later (grantOrNo e r w a)
-  grant-later a = pick-case Later (eqb (a .answer) (noLink e)) (λ z. inr (omega arith)) (λ z. inl refl)
+  grant-later : (b : ℕ) → (refusal (grantOf e b) ≡ 0) ⊎ (3 ≤ refusal (grantOf e b))
+  grant-later b = pick-case (λ (x : Answer). (refusal x ≡ 0) ⊎ (3 ≤ refusal x)) (eqb b (noLink e)) (λ z. inr (omega arith)) (λ z. inl refl)
 
   core-later : (c : Call) → Later (coreCall e r w c)
   core-later (Malloc n) = pick-case Later (ltb (W e * length w) n) (λ z. inr (omega arith)) (λ z. grant-later _)
@@ -75,6 +60,7 @@ module _ (e : Edition) (r w : List ℕ) where
   Count t = refusal (t .answer) ≡ 1 ↔ allowedCount (length w) ≡ false
 
   pub row-1 : (c : Call) → refusal (callB e r w c .answer) ≡ 1 ↔ allowedCount (length w) ≡ false
+  unfolding callB
   row-1 c =
       pick-case Count (allowedCount (length w))
       (λ z. pick-case Count (soundB e r w) (λ y. ((λ q. absurd (later-than 1 (omega arith) (omega arith) (coreCall e r w c) (core-later c) q)), (λ q. clash (allowedCount (length w)) z q)))
@@ -85,6 +71,7 @@ module _ (e : Edition) (r w : List ℕ) where
   Whole t = refusal (t .answer) ≡ 2 ↔ (allowedCount (length w) ≡ true) × (Sound e (decode r) w → ⊥)
 
   pub row-2 : length r ≡ 72 → (c : Call) → refusal (callB e r w c .answer) ≡ 2 ↔ (allowedCount (length w) ≡ true) × (Sound e (decode r) w → ⊥)
+  unfolding callB
   row-2 l c =
       pick-case Whole (allowedCount (length w))
       (λ z. pick-case Whole (soundB e r w)

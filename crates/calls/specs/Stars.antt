@@ -57,7 +57,7 @@ abbrev HeldBox : Box → Type 0
 HeldBox b = Held wide (b .image) (b .words) (b .heap) []
 
 module _ (b : Box) (n : HeldBox b) (c : Call) where
-  f : Follows wide (length (b .words)) (coreCall wide (b .image) (b .words) c) (answerTo wide (length (b .words)) (b .heap) c)
+  f : Follows wide (b .image) (b .words) (coreCall wide (b .image) (b .words) c) (answerTo wide (length (b .words)) (b .heap) c)
   f = call-obeys wide (b .image) (b .words) (b .heap) n c
 
   same-answer : (k v : ℕ) → answered b c k v ≡ same (answerTo wide (length (b .words)) (b .heap) c .answer) k v

@@ -1,0 +1,2 @@
+-- What the C functions leave in the words that they are lent.
+pub mod Words

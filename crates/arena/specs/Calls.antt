@@ -1,0 +1,37 @@
+-- WHAT EACH CALL HANDS BACK, for any record, arena and numbers: the answer, the record's numbers and every word of the arena. Set-up, and the calls
+-- of `callB` on the record's 72 words. A refused call hands back the given record. Assumes nothing.
+use mathlib.Core.List.{List}
+use Prim.Native.Nat.{ℕ}
+use lib.ListN.{length}
+use Rattle.words.specs.Logic.{pick}
+use Rattle.words.specs.Edition.{wide, noLink}
+use Rattle.tiling.specs.Steps.{freshWords}
+use Rattle.rules.specs.Calls.{Call, Answer, granted, done, bytes, refused, bad-count, allowedCount}
+use Rattle.holds.specs.Holds.{Control, freshControl}
+use Rattle.calls.specs.CallBytes.{Told, callB}
+use Rattle.arena.specs.Record.{image, numbersOf, emptyNumbers}
+
+pub record Ends : Type 0 where
+  pub answer : Answer
+  pub control : Control
+  pub words : List ℕ
+
+abbrev pub ends : Answer → Control → List ℕ → Ends
+ends a c w = record { answer = a; control = c; words = w }
+
+-- "A refused call hands back the given record", as does one that only looks; the others that of the words that the core leaves
+abbrev pub handedBack : Answer → Control → List ℕ → Control
+handedBack (granted b) c r = numbersOf r
+handedBack done c r = numbersOf r
+handedBack (bytes n) c r = c
+handedBack (refused why) c r = c
+
+abbrev pub heard : Control → Told → Ends
+heard c t = ends (t .answer) (handedBack (t .answer) c (t .image)) (t .words)
+
+unfoldable pub callA : Control → List ℕ → Call → Ends
+callA c w k = heard c (callB wide (image c) w k)
+
+-- "Set-up writes the top's head and [the foot word]. No other word changes"; refused, it "returns the empty record with length 0"
+unfoldable pub setUpA : List ℕ → Ends
+setUpA w = pick (allowedCount (length w)) (ends done (freshControl wide (length w)) (freshWords wide w)) (ends (refused bad-count) (emptyNumbers wide (noLink wide) 0 0) w)
