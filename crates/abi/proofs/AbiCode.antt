@@ -16,9 +16,9 @@ use Rattle.sound.specs.SoundBytes.{countOk, soundB}
 use Rattle.calls.specs.Counts.{count-allowed}
 use Rattle.calls.specs.CallBytes.{told, refusal, callB}
 use Rattle.holds.specs.Holds.{Control}
-use Rattle.arena.specs.Record.{reads, image}
-use Rattle.arena.specs.Calls.{ends, setUpA}
-use Rattle.arena.specs.RecordLaws.{reads-all}
+use Rattle.calls.specs.Record.{reads, image}
+use Rattle.calls.specs.ByValue.{ends, setUpA}
+use Rattle.calls.specs.RecordLaws.{reads-all}
 use Rattle.abi.specs.Words.{said, valueOf, outOf, lentOk, copied, oddRecord, tellC, callC, setC, setUpC, soundC}
 
 -- ---- what was lent
@@ -125,7 +125,7 @@ module _ (r w out : List ℕ) {x : Bool} (e : x ≡ lentOk (length r) (length ou
   unfolding setUpC
   setup-lost q = sym (rw (sym e ∙ q) refl)
 
-  pub setup-said : x ≡ true → (a : Answer) (d : Control) (w′ : List ℕ) {n : ℕ} {m o v : List ℕ} → ends a d w′ ≡ setUpA w → m ≡ image d → n ≡ refusal a → v ≡ copied m → o ≡ outOf out a → said n v w′ o ≡ setUpC r w out
+  pub setup-said : x ≡ true → (a : Answer) (d : Control) (w′ : List ℕ) {n : ℕ} {m o v : List ℕ} → ends a d w′ ≡ setUpA wide w → m ≡ image d → n ≡ refusal a → v ≡ copied m → o ≡ outOf out a → said n v w′ o ≡ setUpC r w out
   unfolding setUpC
   setup-said t a d w′ c i p v q =
       said-same w′ p (v ∙ ap copied i) q ∙ ap (setC out) c ∙ sym (rw (sym e ∙ t) refl)

@@ -10,8 +10,8 @@ use Rattle.words.specs.Edition.{wide}
 use Rattle.rules.specs.Calls.{Call, Reason, bad-count, unsound, bad-alignment, too-many, not-live, no-room, Answer, granted, done, bytes, refused, allowedCount}
 use Rattle.sound.specs.SoundBytes.{soundB}
 use Rattle.calls.specs.CallBytes.{Told, refusal, callB}
-use Rattle.arena.specs.Record.{reads, image}
-use Rattle.arena.specs.Calls.{Ends, setUpA}
+use Rattle.calls.specs.Record.{reads, image}
+use Rattle.calls.specs.ByValue.{Ends, setUpA}
 
 -- the number returned, the record's words, the arena's, the answer's
 pub record Said : Type 0 where
@@ -68,7 +68,7 @@ abbrev pub setC : List ℕ → Ends → Said
 setC out t = said (refusal (t .answer)) (copied (image (t .control))) (t .words) (outOf out (t .answer))
 
 unfoldable pub setUpC : List ℕ → List ℕ → List ℕ → Said
-setUpC r w out = pick (lentOk (length r) (length out)) (setC out (setUpA w)) (said 2 r w out)
+setUpC r w out = pick (lentOk (length r) (length out)) (setC out (setUpA wide w)) (said 2 r w out)
 
 -- 0 for a sound pair, else the number of the refusal that every call would give
 unfoldable pub soundC : List ℕ → List ℕ → ℕ

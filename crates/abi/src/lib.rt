@@ -6,7 +6,7 @@ ghost use mathlib.Core.Path.{_≡_};
 ghost use Prim.Native.Nat.{_≤_};
 ghost use lib.ListN.{length};
 ghost use Rattle.rules.specs.Calls.{Malloc, Free, Realloc, Memalign, Usable};
-ghost use Rattle.arena.specs.Record.{reads};
+ghost use Rattle.calls.specs.Record.{reads};
 ghost use Rattle.arena.specs.Answers.{answerOf};
 ghost use Rattle.calls.specs.CallBytes.{refusal};
 ghost use Rattle.abi.specs.Words.{lentOk, copied, said, outOf, callC, setUpC, soundC};

@@ -13,8 +13,8 @@ use Rattle.lend.specs.LendBytes.{lent, lentFrom}
 use Rattle.holds.specs.Holds.{Control, freshControl}
 use Rattle.sound.specs.SoundBytes.{countOk, soundB, liveB}
 use Rattle.calls.specs.CallBytes.{Told, told, callB}
-use Rattle.arena.specs.Record.{image, numbersOf, emptyNumbers}
-use Rattle.arena.specs.Calls.{ends, handedBack, heard, callA, setUpA}
+use Rattle.calls.specs.Record.{image, numbersOf, emptyControl}
+use Rattle.calls.specs.ByValue.{ends, handedBack, heard, callA, setUpA}
 use Rattle.arena.specs.Answers.{answerOf}
 use Rattle.arena.specs.declared.answers.Answer as A
 use Rattle.arena.specs.declared.answers.Answer.the-variants.{Granted, Done, Bytes, Refused}
@@ -22,7 +22,7 @@ use Rattle.arena.specs.declared.answers.Reason.{Reason}
 use Rattle.calls.specs.Counts.{count-allowed, count-range}
 
 -- a call that was told on the words of c
-pub call-ends : (c : Control) (w : List ℕ) (k : Call) {r r′ w′ : List ℕ} {a b : Answer} {d : Control} → r ≡ image c → told a r′ w′ ≡ callB wide r w k → b ≡ a → d ≡ handedBack a c r′ → ends b d w′ ≡ callA c w k
+pub call-ends : (c : Control) (w : List ℕ) (k : Call) {r r′ w′ : List ℕ} {a b : Answer} {d : Control} → r ≡ image c → told a r′ w′ ≡ callB wide r w k → b ≡ a → d ≡ handedBack a c r′ → ends b d w′ ≡ callA wide c w k
 unfolding callA
 call-ends c w k {r′ = r′} {w′ = w′} {a = a} {b = b} q t i j = ap (λ d. ends b d w′) j ∙ ap (λ x. ends x (handedBack a c r′) w′) i ∙ ap (heard c) (t ∙ ap (λ z. callB wide z w k) q)
 
@@ -34,7 +34,7 @@ looks c r w s off =
     (λ z. pick-case (λ (t : Told). handedBack (t .answer) c s ≡ c) (soundB wide r w) (λ y. pick-case (λ (t : Told). handedBack (t .answer) c s ≡ c) (liveB wide w (getD r 4 0) off) (λ x. refl) (λ x. refl)) (λ y. refl))
     (λ z. refl)
 
-pub usable-ends : (c : Control) (w : List ℕ) (off : ℕ) {r : List ℕ} {a : Answer} → r ≡ image c → told a r w ≡ callB wide r w (Usable off) → ends a c w ≡ callA c w (Usable off)
+pub usable-ends : (c : Control) (w : List ℕ) (off : ℕ) {r : List ℕ} {a : Answer} → r ≡ image c → told a r w ≡ callB wide r w (Usable off) → ends a c w ≡ callA wide c w (Usable off)
 unfolding callA
 usable-ends c w off {r = r} {a = a} q t =
     ap (λ d. ends a d w) (sym (looks c r w r off) ∙ ap (λ (u : Told). handedBack (u .answer) c r) (sym t)) ∙ ap (heard c) (t ∙ ap (λ z. callB wide z w (Usable off)) q)
@@ -42,15 +42,15 @@ usable-ends c w off {r = r} {a = a} q t =
 -- ---- set-up
 
 module _ (w : List ℕ) {x : Bool} (e : x ≡ countOk (length w)) where
-  pub setup-refused : {d : Control} → x ≡ false → d ≡ emptyNumbers wide (noLink wide) 0 0 → ends (refused bad-count) d w ≡ setUpA w
+  pub setup-refused : {d : Control} → x ≡ false → d ≡ emptyControl wide (noLink wide) 0 0 → ends (refused bad-count) d w ≡ setUpA wide w
   unfolding setUpA
   setup-refused q i = ap (λ z. ends (refused bad-count) z w) i ∙ sym (rw (sym (count-allowed (length w)) ∙ sym e ∙ q) refl)
 
-  pub setup-done : {d : Control} → x ≡ true → d ≡ emptyNumbers wide 0 (8 * length w - 80) (8 * length w) → ends done d (set (set w 1 (8 * length w - 79)) (length w - 9) 80) ≡ setUpA w
+  pub setup-done : {d : Control} → x ≡ true → d ≡ emptyControl wide 0 (8 * length w - 80) (8 * length w) → ends done d (set (set w 1 (8 * length w - 79)) (length w - 9) 80) ≡ setUpA wide w
   unfolding setUpA
   setup-done q i =
       let t = count-range (length w) (sym e ∙ q) .0 in
-      ap (λ z. ends done z (set (set w 1 (8 * length w - 79)) (length w - 9) 80)) (i ∙ ap (λ z. emptyNumbers wide 0 z (8 * length w)) (let z : 8 * length w - 80 ≡ 8 * (length w - 10) = omega arith in z))
+      ap (λ z. ends done z (set (set w 1 (8 * length w - 79)) (length w - 9) 80)) (i ∙ ap (λ z. emptyControl wide 0 z (8 * length w)) (let z : 8 * length w - 80 ≡ 8 * (length w - 10) = omega arith in z))
       ∙ ap (λ z. ends done (freshControl wide (length w)) (set (set w 1 z) (length w - 9) 80)) (let z : 8 * length w - 79 ≡ 8 * (length w - 10) + 1 = omega arith in z)
       ∙ sym (rw (sym (count-allowed (length w)) ∙ sym e ∙ q) refl)
 

@@ -10,8 +10,9 @@ use Rattle.words.specs.Logic.{same?}
 use Rattle.chunk.specs.Bytes.{small, tree, mapOf}
 use Rattle.chunk.specs.declared.access.ChunkOff.{ChunkOff}
 use Rattle.holds.specs.Holds as holds
-use Rattle.arena.specs.Record.{offsets, reads, copiedUp, numbers, numbersOf, image}
-use Rattle.arena.specs.RecordLaws.{reads-all}
+use Rattle.calls.specs.Record.{reads, image, numbersOf}
+use Rattle.arena.specs.Record.{offsets, copiedUp, numbers}
+use Rattle.calls.specs.RecordLaws.{reads-all}
 use Rattle.arena.specs.declared.control.Control.{Control}
 
 pub offset-at : (xs : List ChunkOff) (i : ℕ) → getD xs i record { 0 = 0 } .0 ≡ getD (offsets xs) i 0

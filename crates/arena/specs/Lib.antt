@@ -1,5 +1,3 @@
--- The record by value and its 72 words; what the answers' enums say; what each call hands back.
+-- The record by value, and what the answers' enums say; what each call hands back stands in `calls`, `ByValue`.
 pub mod Record
-pub mod RecordLaws
 pub mod Answers
-pub mod Calls

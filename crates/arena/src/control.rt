@@ -2,7 +2,8 @@
 ghost use mathlib.Core.Path.{_≡_};
 ghost use Prim.Native.Nat.{_+_, _≤_};
 ghost use Rattle.words.specs.Edition.{wide};
-ghost use Rattle.arena.specs.Record.{offsets, reads, copiedUp, numbers, image, numbersOf, emptyNumbers};
+ghost use Rattle.calls.specs.Record.{reads, image, numbersOf, emptyControl};
+ghost use Rattle.arena.specs.Record.{offsets, copiedUp, numbers};
 use chunk::access::ChunkOff;
 use chunk::access::NONE;
 use chunk::image::DV;
@@ -93,7 +94,7 @@ pub fn control_of(r: &[u64; 72]) -> Control
 
 // Every bin empty, no dv.
 pub fn control_with(top: u64, topsize: u64, length: u64) -> Control
-    ensures { λ x. ⌜ numbers x ≡ emptyNumbers wide top topsize length ⌝ }
+    ensures { λ x. ⌜ numbers x ≡ emptyControl wide top topsize length ⌝ }
 {
     Control {
         smallmap: 0,

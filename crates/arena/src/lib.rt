@@ -9,9 +9,10 @@ ghost use denote.Ref.{ptr};
 ghost use Rattle.words.specs.Edition.{wide};
 ghost use Rattle.rules.specs.Calls.{Malloc, Free, Realloc, Memalign, Usable};
 ghost use Rattle.lend.specs.LendBytes.{lent, lentFrom};
-ghost use Rattle.arena.specs.Record.{numbers, image};
+ghost use Rattle.calls.specs.Record.{image};
+ghost use Rattle.calls.specs.ByValue.{ends, handedBack, callA, setUpA};
+ghost use Rattle.arena.specs.Record.{numbers};
 ghost use Rattle.arena.specs.Answers.{answerOf};
-ghost use Rattle.arena.specs.Calls.{ends, handedBack, callA, setUpA};
 use crate::answers::Answer;
 use crate::answers::Reason;
 use crate::answers::Reply;
@@ -50,7 +51,7 @@ fn hand_back(a: Answer, r: &[u64; 72], c: Control) -> Reply
 
 // Two words are written: the top's head and the foot word.
 pub fn setup(w: &mut [u64]) -> Reply
-    ensures { λ x. ⌜ ends (answerOf (x .answer)) (numbers (x .control)) (now (w .exit)) ≡ setUpA (now (w .entry)) ⌝ }
+    ensures { λ x. ⌜ ends (answerOf (x .answer)) (numbers (x .control)) (now (w .exit)) ≡ setUpA wide (now (w .entry)) ⌝ }
 {
     if !words_ok(w.len()) {
         return Reply {
@@ -69,7 +70,7 @@ pub fn setup(w: &mut [u64]) -> Reply
 }
 
 pub fn malloc(c: Control, w: &mut [u64], bytes: u64) -> Reply
-    ensures { λ x. ⌜ ends (answerOf (x .answer)) (numbers (x .control)) (now (w .exit)) ≡ callA (numbers c) (now (w .entry)) (Malloc bytes) ⌝ }
+    ensures { λ x. ⌜ ends (answerOf (x .answer)) (numbers (x .control)) (now (w .exit)) ≡ callA wide (numbers c) (now (w .entry)) (Malloc bytes) ⌝ }
 {
     let mut r = image_of(c);
     let a = on_image::malloc(&mut r, w, bytes);
@@ -77,7 +78,7 @@ pub fn malloc(c: Control, w: &mut [u64], bytes: u64) -> Reply
 }
 
 pub fn free(c: Control, w: &mut [u64], b: BlockOff) -> Reply
-    ensures { λ x. ⌜ ends (answerOf (x .answer)) (numbers (x .control)) (now (w .exit)) ≡ callA (numbers c) (now (w .entry)) (Free (b .0)) ⌝ }
+    ensures { λ x. ⌜ ends (answerOf (x .answer)) (numbers (x .control)) (now (w .exit)) ≡ callA wide (numbers c) (now (w .entry)) (Free (b .0)) ⌝ }
 {
     let mut r = image_of(c);
     let a = on_image::free(&mut r, w, b);
@@ -85,7 +86,7 @@ pub fn free(c: Control, w: &mut [u64], b: BlockOff) -> Reply
 }
 
 pub fn realloc(c: Control, w: &mut [u64], b: BlockOff, bytes: u64) -> Reply
-    ensures { λ x. ⌜ ends (answerOf (x .answer)) (numbers (x .control)) (now (w .exit)) ≡ callA (numbers c) (now (w .entry)) (Realloc (b .0) bytes) ⌝ }
+    ensures { λ x. ⌜ ends (answerOf (x .answer)) (numbers (x .control)) (now (w .exit)) ≡ callA wide (numbers c) (now (w .entry)) (Realloc (b .0) bytes) ⌝ }
 {
     let mut r = image_of(c);
     let a = on_image::realloc(&mut r, w, b, bytes);
@@ -93,7 +94,7 @@ pub fn realloc(c: Control, w: &mut [u64], b: BlockOff, bytes: u64) -> Reply
 }
 
 pub fn memalign(c: Control, w: &mut [u64], alignment: u64, bytes: u64) -> Reply
-    ensures { λ x. ⌜ ends (answerOf (x .answer)) (numbers (x .control)) (now (w .exit)) ≡ callA (numbers c) (now (w .entry)) (Memalign alignment bytes) ⌝ }
+    ensures { λ x. ⌜ ends (answerOf (x .answer)) (numbers (x .control)) (now (w .exit)) ≡ callA wide (numbers c) (now (w .entry)) (Memalign alignment bytes) ⌝ }
 {
     let mut r = image_of(c);
     let a = on_image::memalign(&mut r, w, alignment, bytes);
@@ -102,7 +103,7 @@ pub fn memalign(c: Control, w: &mut [u64], alignment: u64, bytes: u64) -> Reply
 
 // The bytes of a live block that are its owner's. Neither record nor arena is changed.
 pub fn usable(c: Control, w: &[u64], b: BlockOff) -> Answer
-    ensures { λ x. ⌜ ends (answerOf x) (numbers c) (now (w .entry)) ≡ callA (numbers c) (now (w .entry)) (Usable (b .0)) ⌝ }
+    ensures { λ x. ⌜ ends (answerOf x) (numbers c) (now (w .entry)) ≡ callA wide (numbers c) (now (w .entry)) (Usable (b .0)) ⌝ }
 {
     let r = image_of(c);
     on_image::usable(&r, w, b)

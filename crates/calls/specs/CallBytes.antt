@@ -33,6 +33,13 @@ refusal done = 0
 refusal (bytes n) = 0
 refusal (refused why) = number why
 
+-- a refusal, or a look: neither changes anything
+abbrev pub Still : Answer → Type 0
+Still (granted b) = ⊥
+Still done = ⊥
+Still (bytes n) = Unit {0}
+Still (refused why) = Unit {0}
+
 -- "block = chunk + 16", and back
 abbrev pub blockAt : Edition → ℕ → ℕ
 blockAt e c = wrap e (c + 2 * W e)

@@ -44,14 +44,14 @@ use Rattle.memalign.specs.MemalignBytes.{memalignB}
 use Rattle.memalign.specs.MemalignObeys.{memalign-obeys}
 use Rattle.sound.specs.SoundBytes.{usableB}
 use Rattle.decides.specs.LiveLaws.{isSome, live-starts, live-is, usable-is}
-use Rattle.calls.specs.CallBytes.{Told, told, refusing, refusal, blockAt, chunkAt, grantOrNo, ifLive, ifFew, freed, coreCall}
+use Rattle.calls.specs.CallBytes.{Told, told, refusing, Still, blockAt, chunkAt, grantOrNo, ifLive, ifFew, freed, coreCall}
 
--- what was told of r and w is the rule's outcome; a refusal leaves both as they were
+-- what was told of r and w is the rule's outcome; a refusal or a look leaves both as they were
 pub record Follows (e : Edition) (r w : List ℕ) (t : Told) (o : Outcome) : Type 0 where
   pub answer : t .answer ≡ o .answer
   pub held : Held e (t .image) (t .words) (o .heap) []
   pub count : length (t .words) ≡ length w
-  pub left : (refusal (t .answer) ≡ 0 → ⊥) → (t .image ≡ r) × (t .words ≡ w)
+  pub left : Still (t .answer) → (t .image ≡ r) × (t .words ≡ w)
 
 -- ---- numbers
 
@@ -117,7 +117,7 @@ module _ (e : Edition) (r w : List ℕ) (h : Heap) (n : Held e r w h []) where
       let b = same-count (a .image) (a .words) (k .heap) (f .1) (g .changes .total) in
       let c = starts-in′ 0 (k .heap .chunks) (k .place) (used (g .words)) (g .block) in
       rw (f .0, ne-eqb (enc e (k .place)) (noLink e) (none-free e (k .place)))
-      (record { answer = ap granted (block-plain e (k .place) (omega (arith, c, f .1 .near .heads .top .ends, f .1 .near .most))); held = f .1; count = b; left = λ z. absurd (z refl) })
+      (record { answer = ap granted (block-plain e (k .place) (omega (arith, c, f .1 .near .heads .top .ends, f .1 .near .most))); held = f .1; count = b; left = λ z. absurd z })
 
   moves : (t : Told) (p s : ℕ) (o : Option Grant) → Follows e r w t (grantOr6 e h o) → Follows e r w t (movedOr6 e h p s o)
   moves t p s none f = f
@@ -197,7 +197,7 @@ module _ (e : Edition) (r w : List ℕ) (h : Heap) (n : Held e r w h []) where
   free-call : (p s : ℕ) → Starts 0 (h .chunks) p (used s) → Follows e r w (freed (freeB e r w (enc e p))) (outcome done (giveBack e h p) 0)
   free-call p s st =
       let f = free-obeys e r w h n s p st in
-      record { answer = refl; held = f; count = same-count (freeB e r w (enc e p) .image) (freeB e r w (enc e p) .words) (giveBack e h p) f (give-changes e h p s tidy st .total); left = λ z. absurd (z refl) }
+      record { answer = refl; held = f; count = same-count (freeB e r w (enc e p) .image) (freeB e r w (enc e p) .words) (giveBack e h p) f (give-changes e h p s tidy st .total); left = λ z. absurd z }
 
   pub call-obeys : (c : Call) → Follows e r w (coreCall e r w c) (answerTo e (length w) h c)
   call-obeys (Malloc k) = few k (grantOrNo e (mallocB e r w (need (W e) k))) (grantOr6 e h (malloc e h (needWords (W e) k))) (λ l. malloc-call k l)

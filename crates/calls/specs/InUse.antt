@@ -21,13 +21,14 @@ use Rattle.rules.specs.Memalign.{memalign}
 use Rattle.rules.specs.Calls.{Call, Malloc, Free, Realloc, Memalign, Usable, Answer, granted, done, bytes, refused, Outcome, outcome, refuse, Reason, too-many, not-live, bad-alignment, isIn, alignments, blockOf, liveSize, grantOr6, movedOr6, freeCall, reallocCall, usableCall, unlessTooMany, answerTo}
 use Rattle.rules.specs.Blocks.{Grants}
 use Rattle.rules.specs.FreeLaws.{give-changes}
+use Rattle.holds.specs.Unique.{fresh-holds}
 use Rattle.holds.specs.Lookup.{heads-tidy}
-use Rattle.chunk.specs.Bytes.{Store, store}
 use Rattle.chunk.specs.Held.{Held}
 use Rattle.decides.specs.LiveLaws.{Live, live-starts}
 use Rattle.calls.specs.CallObeys.{place-plain, Good, one-of, goods, malloc-blocks, realloc-blocks, memalign-blocks}
-use Rattle.calls.specs.Histories.{Event, asks, writes, writeB, asked, answers, heapAfter, HeldIn, calls-held, write-held, setUpOn}
-use Rattle.calls.specs.Stars.{fresh-held}
+use Rattle.calls.specs.Histories.{Box, box, Event, asks, writes, writeB, asked, answers, heapAfter, HeldIn, calls-held, write-held, setUpOn}
+use Rattle.calls.specs.Record.{image}
+use Rattle.calls.specs.RecordLaws.{held-image}
 
 -- the block that a call, where it is not refused, gives back or moves
 abbrev pub Gone : Call → ℕ → Type 0
@@ -142,21 +143,21 @@ module _ (e : Edition) (r w : List ℕ) (h : Heap) (n : Held e r w h []) where
 
 -- ---- histories
 
-pub tells : (e : Edition) (s : Store) (h : Heap) → HeldIn e s h → (es : List Event) (off : ℕ) → Live e (heapAfter e (length (s .words)) h es .chunks) off ↔ Ledger (Live e (h .chunks)) es (answers e s es) off
+pub tells : (e : Edition) (s : Box) (h : Heap) → HeldIn e s h → (es : List Event) (off : ℕ) → Live e (heapAfter e (length (s .words)) h es .chunks) off ↔ Ledger (Live e (h .chunks)) es (answers e s es) off
 tells e s h n [] off = ((λ u. u), (λ u. u))
 tells e s h n (asks c ∷ es) off =
     let f = calls-held e s h n c in
     let k = answerTo e (length (s .words)) h c in
     let a = subst (λ (m : ℕ). Live e (heapAfter e m (k .heap) es .chunks) off ↔ Ledger (Live e (k .heap .chunks)) es (answers e (asked e s c) es) off) (f .count) (tells e (asked e s c) (k .heap) (f .held) es off) in
-    let b = ledger-same (Live e (k .heap .chunks)) (Next (Live e (h .chunks)) c (k .answer)) (call-tells e (s .image) (s .words) h n c) es (answers e (asked e s c) es) off in
+    let b = ledger-same (Live e (k .heap .chunks)) (Next (Live e (h .chunks)) c (k .answer)) (call-tells e (image (s .control)) (s .words) h (held-image e (s .control) (s .words) h [] n) c) es (answers e (asked e s c) es) off in
     rw (f .answer) ((λ u. b .0 (a .0 u)), (λ u. a .1 (b .1 u)))
 tells e s h n (writes b k v ∷ es) off =
     let f = write-held e s h n b k v in
-    subst (λ (m : ℕ). Live e (heapAfter e m h es .chunks) off ↔ Ledger (Live e (h .chunks)) es (answers e (store (s .image) (writeB e s b k v)) es) off) (f .count) (tells e (store (s .image) (writeB e s b k v)) h (f .held) es off)
+    subst (λ (m : ℕ). Live e (heapAfter e m h es .chunks) off ↔ Ledger (Live e (h .chunks)) es (answers e (box (s .control) (writeB e s b k v)) es) off) (f .count) (tells e (box (s .control) (writeB e s b k v)) h (f .held) es off)
 
 -- from set-up: the blocks in use are those granted and not since given back or moved
 pub in-use : (e : Edition) (w : List ℕ) → length w % 2 ≡ 0 → 16 ≤ length w → length w ≤ 8192 → (es : List Event) (off : ℕ)
     → Live e (heapAfter e (length (setUpOn e w .words)) (freshHeap (length w)) es .chunks) off ↔ Ledger (λ o. ⊥) es (answers e (setUpOn e w) es) off
 in-use e w v l m es off =
-    let a = tells e (setUpOn e w) (freshHeap (length w)) (fresh-held e w v l m) es off in
+    let a = tells e (setUpOn e w) (freshHeap (length w)) (fresh-holds e w v l m) es off in
     let b = ledger-same (Live e []) (λ o. ⊥) (λ o. ((λ u. u .2), (λ u. absurd u))) es (answers e (setUpOn e w) es) off in ((λ u. b .0 (a .0 u)), (λ u. a .1 (b .1 u)))

@@ -16,14 +16,14 @@ use Rattle.holds.specs.Holds.{Sound}
 use Rattle.chunk.specs.Image.{decode}
 use Rattle.sound.specs.SoundBytes.{soundB, liveB}
 use Rattle.decides.specs.SoundLaws.{sound-yes, sound-there}
-use Rattle.calls.specs.CallBytes.{Told, refusing, refusal, grantOf, coreCall, callB}
+use Rattle.calls.specs.CallBytes.{Told, refusing, refusal, Still, grantOf, coreCall, callB}
 use Rattle.calls.specs.CallObeys.{call-obeys}
 
 -- ---- a refusal changes nothing
 
 module _ (e : Edition) (r w : List ℕ) where
   abbrev Quiet : Told → Type 0
-  Quiet t = (refusal (t .answer) ≡ 0 → ⊥) → (t .image ≡ r) × (t .words ≡ w)
+  Quiet t = Still (t .answer) → (t .image ≡ r) × (t .words ≡ w)
 
   quiet : (why : Reason) → Quiet (refusing why r w)
   quiet why f = (refl, refl)

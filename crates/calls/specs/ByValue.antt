@@ -4,12 +4,12 @@ use mathlib.Core.List.{List}
 use Prim.Native.Nat.{ℕ}
 use lib.ListN.{length}
 use Rattle.words.specs.Logic.{pick}
-use Rattle.words.specs.Edition.{wide, noLink}
+use Rattle.words.specs.Edition.{Edition, noLink}
 use Rattle.tiling.specs.Steps.{freshWords}
 use Rattle.rules.specs.Calls.{Call, Answer, granted, done, bytes, refused, bad-count, allowedCount}
 use Rattle.holds.specs.Holds.{Control, freshControl}
 use Rattle.calls.specs.CallBytes.{Told, callB}
-use Rattle.arena.specs.Record.{image, numbersOf, emptyNumbers}
+use Rattle.calls.specs.Record.{image, numbersOf, emptyControl}
 
 pub record Ends : Type 0 where
   pub answer : Answer
@@ -29,9 +29,9 @@ handedBack (refused why) c r = c
 abbrev pub heard : Control → Told → Ends
 heard c t = ends (t .answer) (handedBack (t .answer) c (t .image)) (t .words)
 
-unfoldable pub callA : Control → List ℕ → Call → Ends
-callA c w k = heard c (callB wide (image c) w k)
+unfoldable pub callA : Edition → Control → List ℕ → Call → Ends
+callA e c w k = heard c (callB e (image c) w k)
 
 -- "Set-up writes the top's head and [the foot word]. No other word changes"; refused, it "returns the empty record with length 0"
-unfoldable pub setUpA : List ℕ → Ends
-setUpA w = pick (allowedCount (length w)) (ends done (freshControl wide (length w)) (freshWords wide w)) (ends (refused bad-count) (emptyNumbers wide (noLink wide) 0 0) w)
+unfoldable pub setUpA : Edition → List ℕ → Ends
+setUpA e w = pick (allowedCount (length w)) (ends done (freshControl e (length w)) (freshWords e w)) (ends (refused bad-count) (emptyControl e (noLink e) 0 0) w)
