@@ -43,7 +43,7 @@ use Rattle.realloc.specs.ReallocFollows.{realloc-obeys}
 use Rattle.memalign.specs.MemalignBytes.{memalignB}
 use Rattle.memalign.specs.MemalignObeys.{memalign-obeys}
 use Rattle.sound.specs.SoundBytes.{usableB}
-use Rattle.sound.specs.LiveLaws.{isSome, live-starts, live-is, usable-is}
+use Rattle.decides.specs.LiveLaws.{isSome, live-starts, live-is, usable-is}
 use Rattle.calls.specs.CallBytes.{Told, told, refusing, Still, blockAt, chunkAt, grantOrNo, ifLive, ifFew, freed, coreCall}
 
 -- what was told of r and w is the rule's outcome; a refusal or a look leaves both as they were

@@ -24,8 +24,8 @@ use Rattle.holds.specs.Unique.{NoneInUse, none-in-use, fresh-again, fresh-holds
 use Rattle.chunk.specs.Image.{decode}
 use Rattle.chunk.specs.Held.{Held}
 use Rattle.sound.specs.SoundBytes.{liveB, usableB}
-use Rattle.sound.specs.SoundLaws.{sound-there}
-use Rattle.sound.specs.LiveLaws.{isSome, live-starts, live-is, usable-is}
+use Rattle.decides.specs.SoundLaws.{sound-there}
+use Rattle.decides.specs.LiveLaws.{isSome, live-starts, live-is, usable-is}
 use Rattle.calls.specs.CallBytes.{Told, Still, coreCall, callB}
 use Rattle.calls.specs.Record.{image, numbersOf}
 use Rattle.calls.specs.RecordLaws.{image-top, decode-image, held-fits, held-image, held-read}

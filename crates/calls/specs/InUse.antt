@@ -24,7 +24,7 @@ use Rattle.rules.specs.FreeLaws.{give-changes}
 use Rattle.holds.specs.Unique.{fresh-holds}
 use Rattle.holds.specs.Lookup.{heads-tidy}
 use Rattle.chunk.specs.Held.{Held}
-use Rattle.sound.specs.LiveLaws.{Live, live-starts}
+use Rattle.decides.specs.LiveLaws.{Live, live-starts}
 use Rattle.calls.specs.CallObeys.{place-plain, Good, one-of, goods, malloc-blocks, realloc-blocks, memalign-blocks}
 use Rattle.calls.specs.Histories.{Box, box, Event, asks, writes, writeB, asked, answers, heapAfter, HeldIn, calls-held, write-held, setUpOn}
 use Rattle.calls.specs.Record.{image}

@@ -18,7 +18,7 @@ use Rattle.rules.specs.Heap.{Heap}
 use Rattle.rules.specs.Calls.{Call, Outcome, answerTo, blockOf, liveSize}
 use Rattle.rules.specs.Tidy.{starts-apart′}
 use Rattle.sound.specs.SoundBytes.{usableB}
-use Rattle.sound.specs.LiveLaws.{isSome, live-starts}
+use Rattle.decides.specs.LiveLaws.{isSome, live-starts}
 use Rattle.calls.specs.Histories.{Box, box, Event, asks, writes, writeB, asked, after, heapAfter, HeldIn, let-through, calls-held, live-in, usable-in, word-of, below, write-held}
 use Rattle.calls.specs.CallBytes.{Told}
 use Rattle.calls.specs.Record.{image}

@@ -13,3 +13,4 @@ pub mod Histories
 pub mod Owners
 pub mod Kept
 pub mod InUse
+pub mod Lending

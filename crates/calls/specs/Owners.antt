@@ -33,7 +33,7 @@ use Rattle.realloc.specs.ReallocBytes.{reallocB}
 use Rattle.realloc.specs.ReallocKeeps.{realloc-spares}
 use Rattle.memalign.specs.MemalignBytes.{memalignB}
 use Rattle.memalign.specs.MemalignKeeps.{memalign-spares}
-use Rattle.sound.specs.LiveLaws.{isSome, live-starts, live-is}
+use Rattle.decides.specs.LiveLaws.{isSome, live-starts, live-is}
 use Rattle.calls.specs.CallBytes.{Told, refusing, chunkAt, grantOrNo, ifLive, ifFew, freed, coreCall}
 use Rattle.calls.specs.CallObeys.{chunk-plain, place-plain, Good, one-of, goods, place-low, even, least, low, big, malloc-blocks, realloc-blocks, memalign-blocks}
 

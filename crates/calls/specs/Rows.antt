@@ -15,7 +15,7 @@ use Rattle.rules.specs.Calls.{Call, Malloc, Free, Realloc, Memalign, Usable, Re
 use Rattle.holds.specs.Holds.{Sound}
 use Rattle.chunk.specs.Image.{decode}
 use Rattle.sound.specs.SoundBytes.{soundB, liveB}
-use Rattle.sound.specs.SoundLaws.{sound-yes, sound-there}
+use Rattle.decides.specs.SoundLaws.{sound-yes, sound-there}
 use Rattle.calls.specs.CallBytes.{Told, refusing, refusal, Still, grantOf, coreCall, callB}
 use Rattle.calls.specs.CallObeys.{call-obeys}
 

@@ -1,11 +1,11 @@
 -- FREE OBEYS ITS RULE: where image and words hold a heap and a block in use stands at p, what `dispose_chunk` leaves holds the rule's heap.
 -- The chunks to be merged stand between those before and those after; their free ones are loose; then one look forward decides. Assumes nothing.
-use mathlib.Core.Path.{_≡_, refl, sym, _∙_, ap, ap₂, subst}
+use mathlib.Core.Path.{_≡_, refl, sym, _∙_, ap, subst}
 use mathlib.Core.Bool.{Bool, true, false}
 use mathlib.Core.List.{List, [], _∷_, _++_}
 use mathlib.Core.Option.{Option, none, some}
-use mathlib.Core.Logic.{_⊎_, inl, ⊎-elim}
-use Prim.Native.Nat.{ℕ, _+_, _-_, _*_, _/_, _%_, _≤_, _<_}
+use mathlib.Core.Logic.{inl, ⊎-elim}
+use Prim.Native.Nat.{ℕ, _+_, _-_, _*_, _%_, _≤_, _<_}
 use native.Mathlib.Omega.{arith}
 use lib.Dec.{eqb}
 use borrow.Author.Tests.{eqb-true, eqb-false, eq-eqb, ne-eqb}
@@ -19,7 +19,7 @@ use Rattle.tiling.specs.Free.{freeAt, free-append, free-one}
 use Rattle.tiling.specs.Steps.{freeWords, giveWords, intoTopWords, prev-free}
 use Rattle.tiling.specs.Swaps.{Swap, join-free, join-used, join-top}
 use Rattle.rules.specs.Heap.{Heap, heapDv, heapChunks, heapTiles}
-use Rattle.rules.specs.Binning.{isDv, isPlace, bin, unbin}
+use Rattle.rules.specs.Binning.{isDv, isPlace, unbin}
 use Rattle.rules.specs.Free.{find, away, forward, giveMaybe, giveBack}
 use Rattle.rules.specs.Tidy.{starts-right}
 use Rattle.rules.specs.Lookup.{find-plain, find-back}
@@ -27,7 +27,7 @@ use Rattle.rules.specs.Leaves.{unbin-leaves}
 use Rattle.holds.specs.Holds.{SpareAt, inDv}
 use Rattle.holds.specs.Unique.{one-size}
 use Rattle.holds.specs.Lookup.{run-tidy, heads-right}
-use Rattle.chunk.specs.Bytes.{wrap, less, word, sizeB, cinuseB, setDv, setTop, topW, freeW, giveW}
+use Rattle.chunk.specs.Bytes.{wrap, word, setDv, setTop, freeW}
 use Rattle.chunk.specs.Image.{decode, decode-is}
 use Rattle.chunk.specs.Plain.{small-sum, small-less, word-plain, top-plain, free-plain, give-plain, size-plain, cinuse-plain, pinuse-plain}
 use Rattle.chunk.specs.Held.{Held, top-at, top-size, dv-twice, drop-step, dv-step, swap-step, swap-top-step}

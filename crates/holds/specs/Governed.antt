@@ -1,7 +1,7 @@
 -- WHAT MAY SWAY AN ANSWER: the governed words of a heap are document 01's list: heads, the foot word, feet of free chunks, words 2 and 3 of chunks in
 -- small bins, words 2 to 7 of chunks in trees. Words that agree on these hold the same heap under the same record; and none of them is an owner's.
 -- By the frame laws of the tiling, the lists and the tries. Assumes nothing.
-use mathlib.Core.Path.{_≡_, refl, sym, subst}
+use mathlib.Core.Path.{_≡_, refl, subst}
 use mathlib.Core.Bool.{true}
 use mathlib.Core.List.{List, [], _∷_}
 use mathlib.Core.Logic.{_⊎_, inl, inr, ⊎-elim}

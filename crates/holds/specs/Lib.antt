@@ -10,6 +10,7 @@ pub mod BinLarge
 pub mod Bin
 pub mod Retile
 pub mod Governed
+pub mod SameWords
 pub mod Owner
 pub mod Lookup
 pub mod Spot

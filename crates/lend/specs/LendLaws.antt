@@ -4,7 +4,7 @@ use mathlib.Core.Path.{_≡_, refl, sym, _∙_, ap, subst}
 use mathlib.Core.Bool.{Bool, true, false, _&&_}
 use mathlib.Core.List.{List, [], _++_}
 use mathlib.Core.Option.{some}
-use Prim.Native.Nat.{ℕ, _+_, _-_, _/_, _%_, _≤_, _<_}
+use Prim.Native.Nat.{ℕ, _+_, _-_, _*_, _/_, _%_, _≤_, _<_}
 use native.Mathlib.Omega.{arith}
 use lib.Dec.{leb, eqb}
 use lib.ListN.{length, getD, take, drop, length-append, length-drop, List·getD-append}
@@ -18,8 +18,8 @@ use Rattle.rules.specs.Calls.{blockOf, liveSize}
 use Rattle.holds.specs.Lookup.{run-tidy}
 use Rattle.chunk.specs.Held.{Held}
 use Rattle.sound.specs.SoundBytes.{countOk, soundB, liveB, usableB}
-use Rattle.sound.specs.SoundLaws.{sound-yes, sound-there}
-use Rattle.sound.specs.LiveLaws.{isSome, Live, starts-live, live-is, live-decides, usable-is}
+use Rattle.decides.specs.SoundLaws.{sound-yes, sound-there}
+use Rattle.decides.specs.LiveLaws.{isSome, Live, starts-live, live-is, live-decides, usable-is}
 use Rattle.lend.specs.LendBytes.{lendsB, fitsB, lentFrom, lentWords, lent, back}
 
 -- for all inputs the part lies in the arena
@@ -118,6 +118,10 @@ module _ (e : Edition) (r w : List ℕ) (h : Heap) (n : Held e r w h []) where
     unfolding lentWords
     lent-words = rw (lends, fits) many
 
+    -- in bytes: the usable size
+    lent-usable : usableB e w off ≡ W e * lentWords e r w off
+    lent-usable = usable-is e r w h n off s found ∙ ap (λ k. W e * k) (sym lent-words)
+
     pub lent-some : 0 < lentWords e r w off
     lent-some = omega (arith, lent-words, least)
 
@@ -151,6 +155,13 @@ module _ (e : Edition) (r w : List ℕ) (off : ℕ) (q : length r ≡ 72) where
       let a = lends-where e r w off q l in
       let b = a .2 in
       subst (λ o. fitsB e w o ≡ true) (sym (b .3)) (fits e r w (a .0) (a .1) (b .0) (b .1) (b .2))
+
+  -- and its bytes are the usable size
+  pub lends-usable : lendsB e r w off ≡ true → usableB e w off ≡ W e * lentWords e r w off
+  lends-usable l =
+      let a = lends-where e r w off q l in
+      let b = a .2 in
+      subst (λ o. usableB e w o ≡ W e * lentWords e r w o) (sym (b .3)) (lent-usable e r w (a .0) (a .1) (b .0) (b .1) (b .2))
 
   -- "empty exactly when the first would refuse", for all words
   pub lent-decides : Decides (lendsB e r w off) (0 < lentWords e r w off)

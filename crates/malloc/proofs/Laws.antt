@@ -2,14 +2,12 @@
 use Prim.Native.Nat.{ℕ, _+_, _-_, _*_, _/_, _%_, _^_, _≤_, _<_}
 use mathlib.Core.Path.{_≡_, refl, sym, ap, ap₂, _∙_}
 use mathlib.Core.List.{List}
-use native.Mathlib.Omega.{arith}
-use lib.Dec.{leb, ltb, eqb}
 use borrow.Author.Tests.{le-leb, lt-leb, lt-ltb, le-ltb, eq-eqb, ne-eqb}
 use lib.ListN.{getD}
 use Rattle.words.specs.Edition.{wide, noLink}
 use Rattle.index.specs.BinMap.{firstFrom, ownOrNext}
 use Rattle.rules.specs.Malloc.{to-dv, to-bin}
-use Rattle.chunk.specs.Bytes.{Store, wrap, less, small, mapOf, linkOf, setDv, setTop, usedW, topW, freeW, takeW, splitW}
+use Rattle.chunk.specs.Bytes.{wrap, less, small, mapOf, linkOf, setDv, setTop, usedW, topW, freeW, takeW, splitW}
 use Rattle.smallbin.specs.SmallBytes.{smallBinOf, unlinkFirst}
 use Rattle.treebin.specs.TreeBytes.{unlinkLarge}
 use Rattle.treebin.specs.SearchBytes.{Best, best, bestAbove, bestTree}

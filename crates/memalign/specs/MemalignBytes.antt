@@ -6,7 +6,7 @@ use Rattle.words.specs.Logic.{pick}
 use Rattle.words.specs.Edition.{Edition, W, noLink}
 use Rattle.index.specs.Sizes.{need}
 use Rattle.chunk.specs.Bytes.{Store, store, wrap, less, sizeB, inuseW}
-use Rattle.malloc.specs.MallocBytes.{Reply, reply, answering, mallocB}
+use Rattle.malloc.specs.MallocBytes.{Reply, answering, mallocB}
 use Rattle.free.specs.FreeBytes.{disposeB}
 use Rattle.realloc.specs.ReallocBytes.{cutBack}
 

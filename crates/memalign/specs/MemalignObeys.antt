@@ -1,18 +1,18 @@
 -- MEMALIGN OBEYS ITS RULE on every held heap: malloc's request for the sum, then the lead is given back, then the tail. The lead in bytes is
 -- the rule's lead in words. Assumes nothing.
 use mathlib.Core.Path.{_≡_, refl, sym, _∙_, ap, ap₂, subst}
-use mathlib.Core.Bool.{Bool, true, false}
+use mathlib.Core.Bool.{true, false}
 use mathlib.Core.List.{List, [], _∷_, _++_}
 use mathlib.Core.Option.{Option, none, some}
-use mathlib.Core.Logic.{_⊎_, inl, inr, ⊎-elim}
+use mathlib.Core.Logic.{inl, ⊎-elim}
 use Prim.Native.Nat.{ℕ, zero, suc, _+_, _-_, _*_, _/_, _%_, _^_, _≤_, _<_}
 use native.Mathlib.Omega.{arith}
 use native.Mathlib.Nat.{div-add-mod', div-eq-of-lt, mul-add-div-right, mod-lt, mul-comm, suc-mul}
 use lib.Arith.{mod-mul}
 use lib.Dec.{leb, ltb, eqb}
-use borrow.Author.Tests.{eqb-true, eqb-false, ltb-true, ltb-false, eq-eqb, ne-eqb, lt-ltb, le-ltb, le-leb, lt-leb}
+use borrow.Author.Tests.{eqb-true, eqb-false, ltb-true, eq-eqb, ne-eqb, lt-ltb, le-ltb, le-leb, lt-leb}
 use lib.ListN.{length, getD}
-use Rattle.words.specs.Logic.{pick, pick-case, by, same?, le-or-lt}
+use Rattle.words.specs.Logic.{pick, by, same?, le-or-lt}
 use Rattle.words.specs.Edition.{Edition, wide, narrow, W, W-pos, noLink, none-free, enc, dec-enc}
 use Rattle.index.specs.Sizes.{need, roundUp}
 use Rattle.tiling.specs.Tiling.{Chunk, used, endOf, lastUse, Run, Heads, HeadsFrom, Starts, Split, starts-split, starts-even, starts-in, starts-at, end-ge}
@@ -20,20 +20,19 @@ use Rattle.tiling.specs.Regrow.{splitUsedWords, split-used}
 use Rattle.rules.specs.BinOf.{huge}
 use Rattle.rules.specs.Heap.{Heap, heapChunks}
 use Rattle.rules.specs.Binning.{sizeAt, retile}
-use Rattle.rules.specs.Malloc.{Grant, grant, malloc}
+use Rattle.rules.specs.Malloc.{Grant, malloc}
 use Rattle.rules.specs.Free.{giveBack}
 use Rattle.rules.specs.Realloc.{shrink}
 use Rattle.rules.specs.Memalign.{gap, leadTo, giveLead, giveTail, trimmed, aligned, memalign}
 use Rattle.rules.specs.Tidy.{TidyHeap, starts-right}
 use Rattle.rules.specs.Lookup.{retile-at, split-size}
-use Rattle.rules.specs.Blocks.{Granted, Grants, Changes}
-use Rattle.rules.specs.FreeLaws.{give-changes}
+use Rattle.rules.specs.Blocks.{Grants}
 use Rattle.rules.specs.MallocLaws.{malloc-grants}
 use Rattle.rules.specs.MemalignLaws.{Lead, lead-is, lead-grants}
 use Rattle.holds.specs.Ops.{state}
 use Rattle.holds.specs.Lookup.{run-tidy, heads-tidy, heads-right}
 use Rattle.holds.specs.MallocSource.{malloc-source}
-use Rattle.chunk.specs.Bytes.{Store, store, wrap, less, inuseW}
+use Rattle.chunk.specs.Bytes.{store, wrap, less, inuseW}
 use Rattle.chunk.specs.Image.{decode}
 use Rattle.chunk.specs.Plain.{small-sum, small-less}
 use Rattle.chunk.specs.PlainInuse.{lead-plain}

@@ -14,7 +14,7 @@ use Rattle.rules.specs.Calls.{Call, Answer, granted, done, bytes, refused, bad-
 use Rattle.holds.specs.Holds.{Control, Holds, Sound, freshControl}
 use Rattle.holds.specs.Unique.{fresh-holds}
 use Rattle.sound.specs.SoundBytes.{countOk, soundB}
-use Rattle.sound.specs.SoundLaws.{sound-yes}
+use Rattle.decides.specs.SoundLaws.{sound-yes}
 use Rattle.calls.specs.CallBytes.{Told, refusal, Still, callB}
 use Rattle.calls.specs.Counts.{count-allowed, count-range}
 use Rattle.calls.specs.Record.{image, emptyControl}

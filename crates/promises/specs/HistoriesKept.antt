@@ -21,7 +21,7 @@ use Rattle.holds.specs.Holds.{freshControl}
 use Rattle.holds.specs.Unique.{NoneInUse}
 use Rattle.holds.specs.Lookup.{heads-tidy}
 use Rattle.sound.specs.SoundBytes.{liveB, usableB}
-use Rattle.sound.specs.LiveLaws.{isSome, Live, live-starts, starts-live}
+use Rattle.decides.specs.LiveLaws.{isSome, Live, live-starts, starts-live}
 use Rattle.calls.specs.CallBytes.{refusal}
 use Rattle.calls.specs.Counts.{count-allowed, count-range}
 use Rattle.calls.specs.ByValue.{callA}

@@ -29,7 +29,7 @@ use Rattle.holds.specs.Ops.{state}
 use Rattle.holds.specs.Lookup.{heads-tidy}
 use Rattle.holds.specs.NoRoom.{Tight, no-room-exactly}
 use Rattle.chunk.specs.Held.{Held}
-use Rattle.sound.specs.LiveLaws.{live-starts}
+use Rattle.decides.specs.LiveLaws.{live-starts}
 use Rattle.calls.specs.CallBytes.{refusal}
 use Rattle.calls.specs.Record.{image}
 use Rattle.calls.specs.RecordLaws.{held-image}

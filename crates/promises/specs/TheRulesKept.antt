@@ -22,7 +22,7 @@ use Rattle.holds.specs.Holds.{Control, Holds}
 use Rattle.holds.specs.Ops.{state}
 use Rattle.holds.specs.MallocSource.{malloc-source}
 use Rattle.malloc.specs.MallocObeys.{serve-place}
-use Rattle.sound.specs.LiveLaws.{live-starts}
+use Rattle.decides.specs.LiveLaws.{live-starts}
 use Rattle.calls.specs.CallBytes.{refusal}
 use Rattle.calls.specs.Record.{image}
 use Rattle.calls.specs.RecordLaws.{held-image}

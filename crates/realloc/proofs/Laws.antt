@@ -1,6 +1,6 @@
 -- One law for each contract clause and branch: what the callees have told, put together as the definition says it.
-use Prim.Native.Nat.{ℕ, zero, suc, _+_, _-_, _*_, _/_, _^_, _≤_, _<_}
-use mathlib.Core.Path.{_≡_, refl, sym, ap, ap₂, _∙_}
+use Prim.Native.Nat.{ℕ, suc, _+_, _-_, _/_, _^_, _≤_, _<_}
+use mathlib.Core.Path.{_≡_, refl, sym, ap, _∙_}
 use mathlib.Core.Bool.{Bool, true, false}
 use mathlib.Core.List.{List}
 use native.Mathlib.Omega.{arith}
@@ -9,9 +9,9 @@ use borrow.Author.Tests.{le-leb, lt-leb, lt-ltb, le-ltb, eq-eqb, ne-eqb}
 use lib.ListN.{length, getD, set, length-set}
 use Rattle.words.specs.Logic.{pick}
 use Rattle.words.specs.Edition.{wide, noLink}
-use Rattle.chunk.specs.Bytes.{Store, store, wrap, less, sizeB, cinuseB, setDv, setTop, topW, freeW, unpinW, inuseW}
+use Rattle.chunk.specs.Bytes.{Store, wrap, less, sizeB, cinuseB, setDv, setTop, topW, freeW, unpinW, inuseW}
 use Rattle.treebin.specs.Binning.{unlinkChunk}
-use Rattle.malloc.specs.MallocBytes.{Reply, reply, answering, mallocB}
+use Rattle.malloc.specs.MallocBytes.{reply, mallocB}
 use Rattle.free.specs.FreeBytes.{disposeB}
 use Rattle.realloc.specs.ReallocBytes.{Tried, tried, held, cutBack, shrinkB, growTop, growDv, growBinned, tryRealloc, copyUp, copyWords, moveBlock, movedB, reallocB}
 

@@ -1,26 +1,25 @@
 -- REALLOC, WHOLE: it obeys its rule on every held heap. A move: malloc, then the old block's words are copied into the new one (an owner's
 -- words sway nothing, so the same heap is held), then the old one is given back. Assumes nothing.
-use mathlib.Core.Path.{_≡_, refl, sym, _∙_, ap, ap₂, subst}
-use mathlib.Core.Bool.{Bool, true, false}
+use mathlib.Core.Path.{_≡_, refl, sym, _∙_, ap, subst}
+use mathlib.Core.Bool.{true}
 use mathlib.Core.List.{List, []}
 use mathlib.Core.Option.{Option, none, some}
-use mathlib.Core.Logic.{_⊎_, ⊎-elim}
+use mathlib.Core.Logic.{⊎-elim}
 use Prim.Native.Nat.{ℕ, zero, suc, _+_, _-_, _*_, _/_, _%_, _≤_, _<_}
 use native.Mathlib.Omega.{arith}
-use lib.Dec.{ltb, eqb}
 use borrow.Author.Tests.{le-ltb, eq-eqb, ne-eqb}
-use lib.ListN.{length, getD, set, length-set}
+use lib.ListN.{length, getD, length-set}
 use lib.Seq.{getD-set-other}
 use Rattle.words.specs.Logic.{pick}
 use Rattle.words.specs.Edition.{Edition, wide, narrow, W, noLink, none-free, enc, dec-enc}
 use Rattle.tiling.specs.Tiling.{used, bit, endOf, Starts, starts-at, starts-in}
 use Rattle.rules.specs.BinOf.{huge}
 use Rattle.rules.specs.Heap.{Heap}
-use Rattle.rules.specs.Malloc.{Grant, grant, malloc}
-use Rattle.rules.specs.Free.{find, giveBack}
+use Rattle.rules.specs.Malloc.{Grant, malloc}
+use Rattle.rules.specs.Free.{giveBack}
 use Rattle.rules.specs.Realloc.{resizeHere, front, moved, hereOrMoved, reallocFound, realloc}
 use Rattle.rules.specs.Lookup.{Block, block}
-use Rattle.rules.specs.Blocks.{Granted, Grants}
+use Rattle.rules.specs.Blocks.{Grants}
 use Rattle.rules.specs.MallocLaws.{malloc-grants}
 use Rattle.rules.specs.ReallocLaws.{larger}
 use Rattle.holds.specs.Ops.{state}
@@ -31,12 +30,11 @@ use Rattle.chunk.specs.Bytes.{less, sizeB}
 use Rattle.chunk.specs.Image.{decode}
 use Rattle.chunk.specs.Plain.{small-less, size-plain}
 use Rattle.chunk.specs.Held.{Held}
-use Rattle.malloc.specs.MallocBytes.{Reply, reply, answering, mallocB}
+use Rattle.malloc.specs.MallocBytes.{Reply, reply, mallocB}
 use Rattle.malloc.specs.MallocObeys.{Obeys}
 use Rattle.malloc.specs.MallocFollows.{malloc-obeys}
-use Rattle.free.specs.FreeBytes.{disposeB}
 use Rattle.free.specs.FreeObeys.{flags-below, dispose-obeys}
-use Rattle.realloc.specs.ReallocBytes.{Tried, tried, tryRealloc, copyUp, copyWords, moveBlock, movedB, reallocB}
+use Rattle.realloc.specs.ReallocBytes.{Tried, tryRealloc, copyUp, copyWords, moveBlock, movedB, reallocB}
 use Rattle.realloc.specs.ReallocObeys.{Agrees, resize-agrees}
 
 -- ---- copying

@@ -4,7 +4,7 @@ use mathlib.Core.Path.{_≡_, refl, sym, _∙_, ap, ap₂, subst}
 use mathlib.Core.Bool.{Bool, true, false}
 use mathlib.Core.List.{List, [], _∷_, _++_}
 use mathlib.Core.Option.{Option, none, some}
-use mathlib.Core.Logic.{_⊎_, inl, inr, ⊎-elim}
+use mathlib.Core.Logic.{inl, inr, ⊎-elim}
 use Prim.Native.Nat.{ℕ, _+_, _-_, _*_, _%_, _≤_, _<_}
 use native.Mathlib.Omega.{arith}
 use lib.Dec.{leb, ltb, eqb}
@@ -18,14 +18,14 @@ use Rattle.tiling.specs.Regrow.{keptHead, splitUsedWords, takeNextWords, growRe
 use Rattle.rules.specs.Heap.{Heap, heapDv, heapChunks, heapTiles}
 use Rattle.rules.specs.Binning.{retile, isDv, isPlace, unbin}
 use Rattle.rules.specs.Free.{giveBack}
-use Rattle.rules.specs.Realloc.{shrink, growFree, growIn, resizeHere}
+use Rattle.rules.specs.Realloc.{shrink, growIn, resizeHere}
 use Rattle.rules.specs.Tidy.{starts-right}
 use Rattle.rules.specs.Lookup.{retile-at}
 use Rattle.rules.specs.Leaves.{unbin-leaves}
 use Rattle.holds.specs.Holds.{SpareAt}
 use Rattle.holds.specs.Unique.{one-size}
 use Rattle.holds.specs.Lookup.{run-tidy, heads-right, next-used, NextUsed}
-use Rattle.chunk.specs.Bytes.{Store, wrap, sizeB, cinuseB, setDv, setTop, topW, freeW, unpinW, inuseW}
+use Rattle.chunk.specs.Bytes.{Store, wrap, cinuseB, setDv, setTop, topW, freeW, unpinW, inuseW}
 use Rattle.chunk.specs.Image.{decode, decode-is}
 use Rattle.chunk.specs.Plain.{small-sum, small-rest, size-plain, cinuse-plain}
 use Rattle.chunk.specs.PlainInuse.{split-used-plain, take-next-plain, grow-rest-plain, grow-top-plain}
@@ -34,7 +34,7 @@ use Rattle.treebin.specs.Binning.{unlinkChunk}
 use Rattle.treebin.specs.BinningSteps.{unlink-step}
 use Rattle.free.specs.FreeBytes.{disposeB}
 use Rattle.free.specs.FreeObeys.{dv-test, place-some, place-none, flags-below, dispose-obeys}
-use Rattle.realloc.specs.ReallocBytes.{Tried, tried, held, cutBack, shrinkB, growTop, growDv, growBinned, tryRealloc}
+use Rattle.realloc.specs.ReallocBytes.{Tried, tried, cutBack, shrinkB, growTop, growDv, growBinned, tryRealloc}
 
 -- the chunk behind one in use says PINUSE, the top too
 pub next-odd : (e : Edition) (w : List ℕ) (p : ℕ) (ys : List Chunk) (ts : ℕ) → HeadsFrom e w p true ys ts → getD w (p + 1) 0 % 2 ≡ 1

@@ -1,7 +1,2 @@
--- What the code leaves at each return, as laws: one file for each module of the code, and one for the rings.
-pub mod MarksCode
-pub mod TilesCode
-pub mod SmallCode
-pub mod RingsCode
-pub mod TreesCode
+-- What the code leaves at each return, as laws.
 pub mod SoundCode

@@ -10,9 +10,10 @@ use borrow.Author.Tests.{eq-eqb, ne-eqb, lt-ltb, le-ltb, le-leb, lt-leb, leb-tru
 use Rattle.words.specs.Logic.{false-true}
 use Rattle.words.specs.Edition.{wide}
 use Rattle.chunk.specs.Bytes.{sizeB, cinuseB}
-use Rattle.sound.specs.Marks.{markWords, checked, Checked, andThen, noMarks, isEmpty}
-use Rattle.sound.specs.SoundBytes.{turns, countOk, topOk, walkHeads, dvOk, smallBinsOk, treeBinsOk, binsOk, recordOk, chunksOk, soundB, startsAt, liveB, usableB}
-use Rattle.sound.proofs.SmallCode.{answer}
+use Rattle.marks.specs.Marks.{markWords, checked, Checked, andThen, noMarks, isEmpty, turns, answer}
+use Rattle.tiles.specs.TilesBytes.{topOk, walkHeads}
+use Rattle.bins.specs.BinsBytes.{dvOk, smallBinsOk, treeBinsOk}
+use Rattle.sound.specs.SoundBytes.{countOk, binsOk, recordOk, chunksOk, soundB, startsAt, liveB, usableB}
 
 -- ---- the word count and the record
 

@@ -1,13 +1,2 @@
 -- The check: the words level.
-pub mod Marks
 pub mod SoundBytes
-pub mod MarksLaws
-pub mod Took
-pub mod ListLaws
-pub mod RingLaws
-pub mod TreeLaws
-pub mod BinsLaws
-pub mod TilingLaws
-pub mod SpareLaws
-pub mod SoundLaws
-pub mod LiveLaws

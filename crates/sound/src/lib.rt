@@ -1,22 +1,12 @@
 // Port order 9: the check, and which blocks are live in what it has accepted. Total: any record and any words have an answer.
 // One walk of the heads marks the free chunks; each bin is walked once and takes the marks of what it holds; at the end none is left.
-pub mod marks;
-pub mod small;
-pub mod tiles;
-pub mod trees;
-
 ghost use mathlib.Core.Path.{_≡_};
 ghost use Rattle.words.specs.Edition.{wide};
-ghost use Rattle.sound.specs.Marks.{checked};
-ghost use Rattle.sound.specs.SoundBytes.{turns, countOk, recordOk, binsOk, chunksOk, soundB, startsAt, liveB, usableB};
-use crate::marks::MARK_WORDS;
-use crate::marks::TURNS;
-use crate::marks::is_empty;
-use crate::small::dv_ok;
-use crate::small::small_bins_ok;
-use crate::tiles::top_ok;
-use crate::tiles::walk;
-use crate::trees::tree_bins_ok;
+ghost use Rattle.marks.specs.Marks.{checked, turns};
+ghost use Rattle.sound.specs.SoundBytes.{countOk, recordOk, binsOk, chunksOk, soundB, startsAt, liveB, usableB};
+use bins::small::dv_ok;
+use bins::small::small_bins_ok;
+use bins::trees::tree_bins_ok;
 use chunk::access::BlockOff;
 use chunk::access::ChunkOff;
 use chunk::heads::cinuse;
@@ -25,6 +15,11 @@ use chunk::image::LENGTH;
 use chunk::image::SMALLMAP;
 use chunk::image::TOP;
 use chunk::image::TREEMAP;
+use marks::MARK_WORDS;
+use marks::TURNS;
+use marks::is_empty;
+use tiles::top_ok;
+use tiles::walk;
 
 // An even number of words from 16 to 8,192.
 pub fn words_ok(n: usize) -> bool

@@ -5,7 +5,7 @@ use Rattle.sound.proofs.chunks_ok.Tie as tie
 use Rattle.sound.proofs.chunks_ok.Reads as reads
 use Rattle.sound.proofs.chunks_ok.Lts as lts
 use Rattle.sound.proofs.bins_ok.Reads as bins-ok-reads
-use Rattle.sound.proofs.tiles.walk.Reads as walk-reads
+use Rattle.tiles.proofs.walk.Reads as walk-reads
 
 element-copy-out-walk : tie.Need-element-copy-out-walk
 element-copy-out-walk c = search needs

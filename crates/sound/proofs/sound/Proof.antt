@@ -6,7 +6,7 @@ use Rattle.sound.proofs.sound.Reads as reads
 use Rattle.sound.proofs.sound.Lts as lts
 use Rattle.sound.proofs.chunks_ok.Reads as chunks-ok-reads
 use Rattle.sound.proofs.record_ok.Reads as record-ok-reads
-use Rattle.sound.proofs.tiles.top_ok.Reads as top-ok-reads
+use Rattle.tiles.proofs.top_ok.Reads as top-ok-reads
 use Rattle.sound.proofs.words_ok.Reads as words-ok-reads
 
 words-ok-requires : tie.Need-words-ok-requires

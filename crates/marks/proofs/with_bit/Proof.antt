@@ -1,0 +1,15 @@
+use Rattle.marks.proofs.MarksCode.{laws}
+use borrow.Author.Needs.{needs}
+use Rattle.marks.proofs.with_bit.Statement.{statement}
+use Rattle.marks.proofs.with_bit.Tie as tie
+use Rattle.marks.proofs.with_bit.Reads as reads
+use Rattle.marks.proofs.with_bit.Lts as lts
+
+shl-result : tie.Need-shl-result
+shl-result c = search needs
+
+returns : tie.Need-returns
+returns c = search (laws, needs)
+
+pub with-bit-spec : {M : Type 1} → statement M
+with-bit-spec = tie.close (tie.spec shl-result returns)

@@ -1,0 +1,2 @@
+-- Sets of granules.
+pub mod Marks

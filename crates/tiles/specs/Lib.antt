@@ -1,0 +1,2 @@
+-- The check of the tiling: the words level.
+pub mod TilesBytes
