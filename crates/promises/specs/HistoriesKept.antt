@@ -5,7 +5,7 @@ use mathlib.Core.Bool.{Bool, true, false}
 use mathlib.Core.List.{List, [], _∷_}
 use mathlib.Core.Option.{Option, none, some}
 use mathlib.Core.Logic.{_↔_, _⊎_, inl, inr, ⊎-elim}
-use Prim.Native.Nat.{ℕ, _+_, _-_, _*_, _/_, _≤_, _<_}
+use Prim.Native.Nat.{ℕ, _+_, _-_, _*_, _/_, _%_, _≤_, _<_}
 use native.Mathlib.Omega.{arith}
 use lib.Dec.{ltb}
 use borrow.Author.Tests.{lt-ltb}
@@ -88,7 +88,7 @@ late m h k n (fifth a b c) = ((λ q. omega (arith, q)), (λ q. omega (arith, q))
 late m h k n (sixth a b c d) = ((λ q. omega (arith, q)), (λ q. omega (arith, q)))
 late m h k n (served a b c d) = ((λ q. omega (arith, q)), (λ q. omega (arith, q)))
 
-none-unsound : (s : Box) (h : Heap) → HeldIn wide s h → (es : List Event) → NoneUnsound (answers wide s es)
+pub none-unsound : (s : Box) (h : Heap) → HeldIn wide s h → (es : List Event) → NoneUnsound (answers wide s es)
 none-unsound s h n [] = tt
 none-unsound s h n (asks k ∷ es) =
     let f = calls-held wide s h n k in
@@ -96,3 +96,67 @@ none-unsound s h n (asks k ∷ es) =
     let q = subst (λ (a : Answer). (refusal a ≡ 1 → ⊥) × (refusal a ≡ 2 → ⊥)) (sym (f .answer)) r in
     (q .0, q .1, none-unsound (asked wide s k) (answerTo wide (length (s .words)) h k .heap) (f .held) es)
 none-unsound s h n (writes off i v ∷ es) = none-unsound (box (s .control) (writeB wide s off i v)) h (write-held wide s h n off i v .held) es
+
+-- ---- from one granted set-up
+
+module _ (w : List ℕ) (a : allowedCount (length w) ≡ true) where
+  range : (16 ≤ length w) × (length w ≤ 8192) × (length w % 2 ≡ 0)
+  range = count-range (length w) (count-allowed (length w) ∙ a)
+
+  -- the heap that is held after es
+  abbrev pub heap : List Event → Heap
+  heap es = heapAfter wide (length (setUpOn wide w .words)) (freshHeap (length w)) es
+
+  goes : (es : List Event) → H.Goes wide (setUpOn wide w) (freshHeap (length w)) es
+  goes es = from-set-up wide w (range .2) (range .0) (range .1) es
+
+  pub held : (es : List Event) → HeldIn wide (then w es) (heap es)
+  held es = goes es .held
+
+  count : (es : List Event) → length (then w es .words) ≡ length w
+  count es = goes es .count ∙ simp length-set refl
+
+  pub in-use : (es : List Event) (off : ℕ) → ((n : ℕ) × LiveAt (then w es) off n) ↔ Ledger (λ o. ⊥) es (answers wide (setUpOn wide w) es) off
+  in-use es off =
+      let u = live-is (then w es) (heap es) (held es) off in
+      let v = use-of.in-use wide w (range .2) (range .0) (range .1) es off in ((λ z. v .0 (u .0 z)), (λ z. u .1 (v .1 z)))
+
+  pub apart : (es : List Event) (off n off′ n′ : ℕ) → LiveAt (then w es) off n → LiveAt (then w es) off′ n′ → (off ≡ off′ → ⊥) → (off + n ≤ off′) ⊎ (off′ + n′ ≤ off)
+  apart es off n off′ n′ p q ne =
+      let b = block-of (then w es) (heap es) (held es) off n p in
+      let c = block-of (then w es) (heap es) (held es) off′ n′ q in
+      ⊎-elim (λ u. inl (omega (arith, u, b .place, b .long, c .place))) (λ u. inr (omega (arith, u, b .place, c .long, c .place)))
+      (blocks-apart (heap es) (b .at) (b .words) (c .at) (c .words) (b .starts) (c .starts) (λ z. ne (b .place ∙ ap (blockOf wide) z ∙ sym (c .place))))
+
+  pub inside : (es : List Event) (off n : ℕ) → LiveAt (then w es) off n → off + n ≤ 8 * length w
+  inside es off n p =
+      let b = block-of (then w es) (heap es) (held es) off n p in
+      omega (arith, b .place, b .long, starts-in′ 0 (heap es .chunks) (b .at) (used (b .words)) (b .starts), held es .heads .top .ends, count es)
+
+  pub keeps : (es fs : List Event) (x n : ℕ) → LiveAt (then w es) (blockOf wide x) n → Untouched wide fs x
+      → LiveAt (after wide (then w es) fs) (blockOf wide x) n × ((i : ℕ) → 8 * i < n → getD (after wide (then w es) fs .words) (x + 2 + i) 0 ≡ getD (then w es .words) (x + 2 + i) 0)
+  keeps es fs x n p u =
+      let b = block-at (then w es) (heap es) (held es) x n p in
+      let k = kept wide (then w es) (heap es) (held es) x (b .0) (b .1) fs u in
+      let g = H.goes wide (then w es) (heap es) (held es) fs in
+      (subst (LiveAt (after wide (then w es) fs) (blockOf wide x)) (sym (b .2)) (live-at (after wide (then w es) fs) (heapAfter wide (length (then w es .words)) (heap es) fs) (g .held) x (b .0) (k .stays)),
+      λ i l. k .words (x + 2 + i) (omega arith) (omega (arith, l, b .2)))
+
+  pub reads-back : (es : List Event) (x n i v : ℕ) → LiveAt (then w es) (blockOf wide x) n → 8 * i < n → getD (after wide (then w es) (writes (blockOf wide x) i v ∷ []) .words) (x + 2 + i) 0 ≡ v
+  reads-back es x n i v p l =
+      let b = block-at (then w es) (heap es) (held es) x n p in
+      let s = then w es in
+      let h = heap es in
+      let off = blockOf wide x in
+      let z = starts-live wide true 0 (h .chunks) x (b .0) (heads-tidy wide (s .words) h (held es .heads) .chunks) (b .1) in
+      let m = live-in wide s h (held es) off ∙ ap isSome z in
+      let k = usable-in wide s h (held es) off (b .0) z in
+      let y : writeB wide s off i v ≡ set (s .words) (x + 2 + i) v =
+        rw (m, lt-ltb (8 * i) (usableB wide (s .words) off) (subst (λ (q : ℕ). 8 * i < q) (sym k) (subst (λ (q : ℕ). 8 * i < q) (b .2) l)), word-of wide x) refl in
+      ap (λ q. getD q (x + 2 + i) 0) y ∙ getD-set-same (s .words) (x + 2 + i) v 0 (omega (arith, l, b .2, starts-in′ 0 (h .chunks) x (used (b .0)) (b .1), held es .heads .top .ends))
+
+  pub fresh-record : (es : List Event) → ((off n : ℕ) → LiveAt (then w es) off n → ⊥) → then w es .control ≡ freshControl wide (length w)
+  fresh-record es f = H.fresh-record wide w (range .2) (range .0) (range .1) es (none-live (then w es) (heap es) (held es) f)
+
+  pub fresh-answers : (v : List ℕ) (es fs : List Event) → length v ≡ length w → ((off n : ℕ) → LiveAt (then w es) off n → ⊥) → answers wide (then w es) fs ≡ answers wide (setUpOn wide v) fs
+  fresh-answers v es fs q f = H.fresh-answers wide w (range .2) (range .0) (range .1) es (none-live (then w es) (heap es) (held es) f) v q fs

@@ -4,3 +4,8 @@ pub mod RowLaws
 pub mod AnyInputKept
 pub mod TheRulesKept
 pub mod HistoriesKept
+pub mod ResizeKept
+pub mod SwayedKept
+pub mod SettledKept
+pub mod AllKept
+pub mod Instance

@@ -27,6 +27,10 @@ use Rattle.calls.specs.ByValue.{Ends, ends, callA, setUpA}
 use Rattle.calls.specs.Histories.{Box, box, Event, writes, after, answers, heapAfter, setUpOn}
 use Rattle.calls.specs.InUse.{Ledger}
 use Rattle.calls.specs.Kept.{Untouched}
+use Rattle.arena.specs.Answers.{answerOf}
+use Rattle.arena.specs.Record.{numbers}
+use Rattle.arena.specs.declared.answers.Answer as code
+use Rattle.arena.specs.declared.control.Control as arena
 
 -- ---- the rows of document 01's table that come after 1 and 2
 
@@ -145,3 +149,29 @@ pub record Histories : Type 0 where
   pub fresh-record : (w : List ℕ) (es : List Event) → allowedCount (length w) ≡ true → ((off n : ℕ) → LiveAt (then w es) off n → ⊥) → then w es .control ≡ freshControl wide (length w)
   pub fresh-answers : (w v : List ℕ) (es fs : List Event) → allowedCount (length w) ≡ true → length v ≡ length w → ((off n : ℕ) → LiveAt (then w es) off n → ⊥)
       → answers wide (then w es) fs ≡ answers wide (setUpOn wide v) fs
+
+-- WHAT MAY SWAY AN ANSWER: the call's numbers, the record, and document 01's list of governed words.
+pub record Swayed : Type 0 where
+  -- Two arenas that agree in the list, under one record, get the same answers,
+  pub same-answers : (c : Control) (w v : List ℕ) (h : Heap) → Holds wide c w h → length v ≡ length w → ((i : ℕ) → Governed h i → getD v i 0 ≡ getD w i 0) → (es : List Event)
+      → answers wide (box c v) es ≡ answers wide (box c w) es
+  -- and go on agreeing in it, record and all.
+  pub same-record : (c : Control) (w v : List ℕ) (h : Heap) → Holds wide c w h → length v ≡ length w → ((i : ℕ) → Governed h i → getD v i 0 ≡ getD w i 0) → (es : List Event)
+      → after wide (box c v) es .control ≡ after wide (box c w) es .control
+  pub same-words : (c : Control) (w v : List ℕ) (h : Heap) → Holds wide c w h → length v ≡ length w → ((i : ℕ) → Governed h i → getD v i 0 ≡ getD w i 0) → (es : List Event) (i : ℕ)
+      → Governed (heapAfter wide (length w) h es) i → getD (after wide (box c v) es .words) i 0 ≡ getD (after wide (box c w) es .words) i 0
+
+-- NO SECOND OUTCOME: two outcomes that both fit a call's contract, in the types of the code, are one.
+pub record Settled : Type 0 where
+  pub call : (c d d′ : arena.Control) (w v v′ : List ℕ) (k : Call) (a a′ : code.Answer)
+      → ends (answerOf a) (numbers d) v ≡ callA wide (numbers c) w k → ends (answerOf a′) (numbers d′) v′ ≡ callA wide (numbers c) w k → (a ≡ a′) × (d ≡ d′) × (v ≡ v′)
+  pub set-up : (d d′ : arena.Control) (w v v′ : List ℕ) (a a′ : code.Answer)
+      → ends (answerOf a) (numbers d) v ≡ setUpA wide w → ends (answerOf a′) (numbers d′) v′ ≡ setUpA wide w → (a ≡ a′) × (d ≡ d′) × (v ≡ v′)
+
+-- ALL OF IT.
+pub record Promises : Type 0 where
+  pub any-input : AnyInput
+  pub the-rules : TheRules
+  pub histories : Histories
+  pub swayed : Swayed
+  pub settled : Settled
