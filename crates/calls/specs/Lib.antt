@@ -6,6 +6,7 @@ pub mod Record
 pub mod RecordLaws
 pub mod ByValue
 pub mod CallObeys
+pub mod CallReach
 pub mod Stars
 pub mod Refusals
 pub mod Rows

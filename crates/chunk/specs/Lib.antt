@@ -5,4 +5,4 @@ pub mod Plain
 pub mod PlainInuse
 pub mod Held
 pub mod PlainLinks
-pub mod ChunkKeeps
+pub mod ChunkReach

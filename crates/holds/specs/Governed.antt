@@ -12,7 +12,8 @@ use Rattle.words.specs.Edition.{Edition}
 use Rattle.words.specs.Fields.{fld, countL}
 use Rattle.words.specs.Places.{AgreeTo}
 use Rattle.words.specs.Logic.{le-or-lt}
-use Rattle.tiling.specs.Tiling.{Chunk, used, free, Reads, HeadsReads, Starts, starts-in, starts-apart, owned-free, heads-frame}
+use Rattle.tiling.specs.Tiling.{used, free, HeadsReads, Starts, starts-in, starts-apart, owned-free, heads-frame}
+use Rattle.tiling.specs.Reading.{reads-head}
 use Rattle.tiling.specs.Free.{Roomy}
 use Rattle.lists.specs.Links.{keep-list}
 use Rattle.tries.specs.Tree.{leaf, count}
@@ -25,7 +26,7 @@ use Rattle.holds.specs.Where.{small-roomy, trie-roomy}
 use Rattle.holds.specs.Frame.{keep-trie}
 
 -- word j, from 2 up to but not d, of the chunk at x
-abbrev LinkOf : ℕ → ℕ → ℕ → Type 0
+abbrev pub LinkOf : ℕ → ℕ → ℕ → Type 0
 LinkOf d x i = (j : ℕ) × (2 ≤ j) × (j < d) × (i ≡ x + j)
 
 -- "words 2 and 3 of chunks in small bins, and words 2 to 7 of chunks in trees"
@@ -35,17 +36,20 @@ SmallLink h i = (b : ℕ) × (x : ℕ) × (b < 32) × (1 ≤ countL x (getD (h .
 abbrev pub TreeLink : Heap → ℕ → Type 0
 TreeLink h i = (b : ℕ) × (x : ℕ) × (b < 32) × (1 ≤ count x (getD (h .tries) b leaf)) × LinkOf 8 x i
 
--- "heads, the foot word, feet of free chunks", and the links
-abbrev pub Governed : Heap → ℕ → Type 0
-Governed h i = HeadsReads 0 (h .chunks) (h .top) i ⊎ (SmallLink h i ⊎ TreeLink h i)
+abbrev pub Linked : Heap → ℕ → Type 0
+Linked h i = SmallLink h i ⊎ TreeLink h i
 
--- every chunk's head is one of the heads
-head-read : (p : ℕ) (cs : List Chunk) (x : ℕ) (c : Chunk) → Starts p cs x c → Reads p cs (x + 1)
-head-read p [] x c s = absurd s
-head-read p (used n ∷ cs) x c (inl s) = inl (omega (arith, s .0))
-head-read p (used n ∷ cs) x c (inr s) = inr (head-read (p + n) cs x c s)
-head-read p (free n ∷ cs) x c (inl s) = inl (omega (arith, s .0))
-head-read p (free n ∷ cs) x c (inr s) = inr (inr (head-read (p + n) cs x c s))
+-- "heads, the foot word, feet of free chunks"
+abbrev pub Tiled : Heap → ℕ → Type 0
+Tiled h i = HeadsReads 0 (h .chunks) (h .top) i
+
+abbrev pub Governed : Heap → ℕ → Type 0
+Governed h i = Tiled h i ⊎ Linked h i
+
+-- in one of several heaps, as a call passes through them
+abbrev pub GovernedIn : List Heap → ℕ → Type 0
+GovernedIn [] i = ⊥
+GovernedIn (h ∷ hs) i = Governed h i ⊎ GovernedIn hs i
 
 module _ (e : Edition) (r : Control) (w : List ℕ) (h : Heap) (loose : List ℕ) (n : Near e r w h loose) where
   pub governed-frame : (v : List ℕ) → length v ≡ length w → ((i : ℕ) → Governed h i → getD v i 0 ≡ getD w i 0) → Near e r v h loose
@@ -71,7 +75,7 @@ module _ (e : Edition) (r : Control) (w : List ℕ) (h : Heap) (loose : List ℕ
       kept : (d x : ℕ) → Roomy d (h .chunks) x → ((j : ℕ) → LinkOf d x (x + j) → getD v (x + j) 0 ≡ getD w (x + j) 0) → AgreeTo d (fld w) (fld v) x
       kept d x a g j lo hi =
           ⊎-elim (λ t. g j (j, t, hi, refl))
-          (λ t. subst (λ (y : ℕ). getD v (x + y) 0 ≡ getD w (x + y) 0) (let q : 1 ≡ j = omega arith in q) (f (x + 1) (inl (inl (head-read 0 (h .chunks) x (free (a .0)) (a .1))))))
+          (λ t. subst (λ (y : ℕ). getD v (x + y) 0 ≡ getD w (x + y) 0) (let q : 1 ≡ j = omega arith in q) (f (x + 1) (inl (reads-head 0 (h .chunks) (h .top) x (free (a .0)) (a .1)))))
           (le-or-lt 2 j)
 
   -- a free chunk's links lie outside a block in use

@@ -2,7 +2,7 @@
 -- refuses, nothing changes. By the step laws of the bins and of the tiling: each branch is a few steps, each test in bytes is the rule's test.
 -- Assumes nothing.
 use mathlib.Core.Path.{_≡_, refl, sym, _∙_, ap, subst}
-use mathlib.Core.Bool.{Bool, true, false}
+use mathlib.Core.Bool.{true}
 use mathlib.Core.List.{List, [], _∷_}
 use mathlib.Core.Option.{Option, none, some}
 use Prim.Native.Nat.{ℕ, _+_, _-_, _*_, _%_, _≤_}
@@ -29,12 +29,6 @@ use Rattle.treebin.specs.BinningSteps.{insert-step, replace-step}
 abbrev pub Obeys : Edition → List ℕ → List ℕ → Reply → Option Grant → Type 0
 Obeys e r w a none = a ≡ reply (noLink e) r w
 Obeys e r w a (some g) = (a .answer ≡ enc e (g .place)) × Held e (a .image) (a .words) (g .heap) []
-
--- two choices by the same test
-pub obey-pick : (e : Edition) (r w : List ℕ) (b c : Bool) (x y : Reply) (x′ y′ : Option Grant) → b ≡ c → (c ≡ true → Obeys e r w x x′) → (c ≡ false → Obeys e r w y y′)
-    → Obeys e r w (pick b x y) (pick c x′ y′)
-obey-pick e r w b true x y x′ y′ q f g = subst (λ (z : Bool). Obeys e r w (pick z x y) x′) (sym q) (f refl)
-obey-pick e r w b false x y x′ y′ q f g = subst (λ (z : Bool). Obeys e r w (pick z x y) y′) (sym q) (g refl)
 
 pub serve-place : (e : Edition) (k : Rest) (h : Heap) (p s nb : ℕ) → (serve e k h p s nb) .place ≡ p
 serve-place e k h p s nb = pick-case (λ (g : Grant). g .place ≡ p) (leb 4 (s - nb)) (λ _. refl) (λ _. refl)

@@ -15,8 +15,8 @@ use lib.ListN.{length, getD}
 use Rattle.words.specs.Logic.{pick, by, same?, le-or-lt}
 use Rattle.words.specs.Edition.{Edition, wide, narrow, W, W-pos, noLink, none-free, enc, dec-enc}
 use Rattle.index.specs.Sizes.{need, roundUp}
-use Rattle.tiling.specs.Tiling.{Chunk, used, endOf, lastUse, Run, Heads, HeadsFrom, Starts, Split, starts-split, starts-even, starts-in, starts-at, end-ge}
-use Rattle.tiling.specs.Regrow.{splitUsedWords, split-used}
+use Rattle.tiling.specs.Tiling.{Chunk, used, endOf, lastUse, Heads, HeadsFrom, Starts, Split, starts-split, starts-even, starts-in, starts-at}
+use Rattle.tiling.specs.Regrow.{splitUsedWords}
 use Rattle.rules.specs.BinOf.{huge}
 use Rattle.rules.specs.Heap.{Heap, heapChunks}
 use Rattle.rules.specs.Binning.{sizeAt, retile}
@@ -24,33 +24,34 @@ use Rattle.rules.specs.Malloc.{Grant, malloc}
 use Rattle.rules.specs.Free.{giveBack}
 use Rattle.rules.specs.Realloc.{shrink}
 use Rattle.rules.specs.Memalign.{gap, leadTo, giveLead, giveTail, trimmed, aligned, memalign}
-use Rattle.rules.specs.Tidy.{TidyHeap, starts-right}
-use Rattle.rules.specs.Lookup.{retile-at, split-size}
+use Rattle.rules.specs.Tidy.{starts-right}
+use Rattle.rules.specs.Lookup.{split-size}
 use Rattle.rules.specs.Blocks.{Grants}
 use Rattle.rules.specs.MallocLaws.{malloc-grants}
 use Rattle.rules.specs.MemalignLaws.{Lead, lead-is, lead-grants}
 use Rattle.holds.specs.Ops.{state}
-use Rattle.holds.specs.Lookup.{run-tidy, heads-tidy, heads-right}
+use Rattle.holds.specs.Lookup.{heads-tidy, heads-right}
 use Rattle.holds.specs.MallocSource.{malloc-source}
-use Rattle.chunk.specs.Bytes.{store, wrap, less, inuseW}
+use Rattle.chunk.specs.Bytes.{Store, store, wrap, less, inuseW}
 use Rattle.chunk.specs.Image.{decode}
 use Rattle.chunk.specs.Plain.{small-sum, small-less}
 use Rattle.chunk.specs.PlainInuse.{lead-plain}
-use Rattle.chunk.specs.Held.{Held, leb-bytes, ltb-bytes, swap-step}
-use Rattle.malloc.specs.MallocBytes.{Reply, answering, mallocB}
+use Rattle.chunk.specs.Held.{Held, leb-bytes, ltb-bytes}
+use Rattle.malloc.specs.MallocBytes.{Reply, mallocB}
 use Rattle.malloc.specs.MallocObeys.{Obeys}
 use Rattle.malloc.specs.MallocFollows.{malloc-obeys}
 use Rattle.free.specs.FreeBytes.{disposeB}
 use Rattle.free.specs.FreeObeys.{dispose-obeys}
 use Rattle.realloc.specs.ReallocBytes.{cutBack, shrinkB}
-use Rattle.realloc.specs.ReallocObeys.{next-odd, shrink-obeys}
+use Rattle.realloc.specs.ReallocObeys.{next-odd, retiled, shrink-obeys}
 use Rattle.realloc.specs.ReallocFollows.{block-size}
+use Rattle.realloc.specs.ResizeReach.{halved-held}
 use Rattle.memalign.specs.MemalignBytes.{leadOf, giveLeadB, giveTailB, trimB, alignedB, memalignB}
 
 -- ---- numbers
 
 -- the request for the sum, rounded: its need
-request-plain : (e : Edition) (nb al : ℕ) → nb % 2 ≡ 0 → al % 2 ≡ 0 → W e * (nb + al + 4) < huge → wrap e (need (W e) (wrap e (enc e nb + wrap e (enc e al + W e * 3)))) ≡ enc e (nb + al + 4)
+pub request-plain : (e : Edition) (nb al : ℕ) → nb % 2 ≡ 0 → al % 2 ≡ 0 → W e * (nb + al + 4) < huge → wrap e (need (W e) (wrap e (enc e nb + wrap e (enc e al + W e * 3)))) ≡ enc e (nb + al + 4)
 unfolding need roundUp huge
 request-plain wide nb al v a hi =
     let q : wrap wide (8 * nb + wrap wide (8 * al + 8 * 3)) ≡ 8 * (nb + al + 3) = omega arith in
@@ -112,7 +113,7 @@ gap-is p al pos =
     some-of zero f = absurd (f refl)
     some-of (suc y) f = omega arith
 
-lead-plain-of : (e : Edition) (p al : ℕ) → 4 ≤ al → al ≤ 1024 → p ≤ 8180 → leadOf e (enc e p) (enc e al) ≡ enc e (leadTo p al)
+pub lead-plain-of : (e : Edition) (p al : ℕ) → 4 ≤ al → al ≤ 1024 → p ≤ 8180 → leadOf e (enc e p) (enc e al) ≡ enc e (leadTo p al)
 unfolding leadOf
 lead-plain-of e p al l hi near =
     rw (ne-eqb (enc e al) 0 (some-al e), over)
@@ -158,62 +159,53 @@ lead-plain-of e p al l hi near =
         (⊎-elim (λ u. rw (le-ltb 4 (al - (p + 2) % al) u, le-leb (al - (p + 2) % al) 4 u) refl) (λ u. rw (lt-ltb 4 (al - (p + 2) % al) u, lt-leb (al - (p + 2) % al) 4 u) refl) (le-or-lt (al - (p + 2) % al) 4)))
 
 module _ (e : Edition) (r w : List ℕ) (h : Heap) (n : Held e r w h []) (p s : ℕ) (st : Starts 0 (h .chunks) p (used s)) where
+  fits : p + s + 12 ≤ length w
+  fits = omega (arith, starts-in e w 0 true (h .chunks) p (used s) (n .near .heads .run) st, n .near .heads .top .ends, n .near .heads .top .least)
+
+  pub near : p + s + 12 ≤ 8192
+  near = omega (arith, fits, n .near .most)
+
   -- ---- the lead is split off and given back
 
-  lead-step : (k : ℕ) → k % 2 ≡ 0 → 4 < k → k + 4 ≤ s → Held e (giveLeadB e r w (enc e p) (enc e k) .image) (giveLeadB e r w (enc e p) (enc e k) .words) (giveLead e h p s k) []
+  pub lead-words : (k : ℕ) → 4 < k → k + 4 ≤ s → giveLeadB e r w (enc e p) (enc e k) ≡ disposeB e r (splitUsedWords e w p k (s - k)) (enc e p) (enc e k)
   unfolding giveLeadB
-  lead-step k v big fit = go (starts-split 0 (h .chunks) p (used s) st)
+  lead-words k big fit = rw (block-size e r w h [] p s n st, words (starts-split 0 (h .chunks) p (used s) st)) refl
     where
-      go : Split 0 (h .chunks) p (used s) → Held e (giveLeadB e r w (enc e p) (enc e k) .image) (giveLeadB e r w (enc e p) (enc e k) .words) (giveLead e h p s k) []
-      go d =
-          rw (ne-eqb k 0 (λ z. omega arith), block-size e r w h [] p s n st)
-          (subst (λ x. Held e (disposeB e r x (enc e p) (enc e k) .image) (disposeB e r x (enc e p) (enc e k) .words) (giveBack e (heapChunks h (retile 0 (h .chunks) p (used k ∷ used (s - k) ∷ []))) p) []) (sym words)
-          (subst (λ c. Held e (disposeB e r ws (enc e p) (enc e k) .image) (disposeB e r ws (enc e p) (enc e k) .words) (giveBack e (heapChunks h c) p) []) (sym retiled)
-          (dispose-obeys e r ws (heapChunks h cs) cut k p first)))
+      words : Split 0 (h .chunks) p (used s) → inuseW e (inuseW e w (wrap e (enc e p + enc e k)) (less e (enc e s) (enc e k))) (enc e p) (enc e k) ≡ splitUsedWords e w p k (s - k)
+      words d =
+          ap₂ (λ x y. inuseW e (inuseW e w x y) (enc e p) (enc e k)) (small-sum e p k (omega (arith, near))) (small-less e s k (omega arith) (omega (arith, near)))
+          ∙ lead-plain e w p k (s - k) (omega arith) (omega arith) (omega (arith, near)) (omega (arith, fits))
+          (ap (λ i. getD w i 0 % 2) (let z : p + k + (s - k) + 1 ≡ a + s + 1 = omega (arith, d .place) in z) ∙ next-odd e w (a + s) (d .after) (h .top) (record { run = t .run .1; top = t .top }))
         where
-          xs : List Chunk
-          xs = d .before
-
-          ys : List Chunk
-          ys = d .after
-
           a : ℕ
-          a = endOf 0 xs
+          a = endOf 0 (d .before)
 
-          ws : List ℕ
-          ws = splitUsedWords e w p k (s - k)
+          t : HeadsFrom e w a (lastUse true (d .before)) (used s ∷ d .after) (h .top)
+          t = heads-right e w 0 true (d .before) (used s ∷ d .after) (h .top) (subst (λ c. Heads e w c (h .top)) (d .whole) (n .near .heads))
 
-          cs : List Chunk
-          cs = xs ++ (used k ∷ used (s - k) ∷ ys)
+  pub lead-step : (k : ℕ) → k % 2 ≡ 0 → 4 < k → k + 4 ≤ s → Held e (giveLeadB e r w (enc e p) (enc e k) .image) (giveLeadB e r w (enc e p) (enc e k) .words) (giveLead e h p s k) []
+  lead-step k v big fit =
+      subst (λ (y : Store). Held e (y .image) (y .words) (giveLead e h p s k) []) (sym (lead-words k big fit))
+      (rw (ne-eqb k 0 (λ z. omega arith)) (go (starts-split 0 (h .chunks) p (used s) st)))
+    where
+      Given : ℕ → List Chunk → Type 0
+      Given z cs = Held e (disposeB e r (splitUsedWords e w z k (s - k)) (enc e z) (enc e k) .image) (disposeB e r (splitUsedWords e w z k (s - k)) (enc e z) (enc e k) .words) (giveBack e (heapChunks h cs) z) []
 
-          t : HeadsFrom e w a (lastUse true xs) (used s ∷ ys) (h .top)
-          t = heads-right e w 0 true xs (used s ∷ ys) (h .top) (subst (λ c. Heads e w c (h .top)) (d .whole) (n .near .heads))
+      go : Split 0 (h .chunks) p (used s) → Given p (retile 0 (h .chunks) p (used k ∷ used (s - k) ∷ []))
+      go d =
+          subst (λ z. Given z (retile 0 (h .chunks) z (used k ∷ used (s - k) ∷ []))) (sym (d .place))
+          (subst (Given a) (sym (retiled e r w h n (d .before) s (d .after) (d .whole) (used k ∷ used (s - k) ∷ [])))
+          (dispose-obeys e r (splitUsedWords e w a k (s - k)) (heapChunks h (d .before ++ (used k ∷ used (s - k) ∷ d .after)))
+          (halved-held e r w h n (d .before) s (d .after) (d .whole) k v (omega arith) (omega arith) (omega arith)) k a (starts-right 0 (d .before) (used k ∷ used (s - k) ∷ d .after) a (used k) (inl (refl, refl)))))
+        where
+          a : ℕ
+          a = endOf 0 (d .before)
 
-          fits : p + s + 1 < length w
-          fits = omega (arith, d .place, t .top .ends, t .top .least, end-ge (a + s) ys)
-
-          near : p + s ≤ 8192
-          near = omega (arith, fits, n .near .most)
-
-          words : inuseW e (inuseW e w (wrap e (enc e p + enc e k)) (less e (enc e s) (enc e k))) (enc e p) (enc e k) ≡ ws
-          words =
-              ap₂ (λ x y. inuseW e (inuseW e w x y) (enc e p) (enc e k)) (small-sum e p k (omega (arith, near))) (small-less e s k (omega arith) (omega (arith, near)))
-              ∙ lead-plain e w p k (s - k) (omega arith) (omega arith) (omega (arith, near)) (omega (arith, fits))
-              (ap (λ i. getD w i 0 % 2) (let z : p + k + (s - k) + 1 ≡ a + s + 1 = omega (arith, d .place) in z) ∙ next-odd e w (a + s) ys (h .top) (record { run = t .run .1; top = t .top }))
-
-          retiled : retile 0 (h .chunks) p (used k ∷ used (s - k) ∷ []) ≡ cs
-          retiled =
-              ap (λ c. retile 0 c p (used k ∷ used (s - k) ∷ [])) (d .whole) ∙ ap (λ x. retile 0 (xs ++ (used s ∷ ys)) x (used k ∷ used (s - k) ∷ [])) (d .place)
-              ∙ retile-at 0 true xs (used s) ys (used k ∷ used (s - k) ∷ []) (run-tidy e w 0 true (xs ++ (used s ∷ ys)) (subst (λ c. Run e w 0 true c) (d .whole) (n .near .heads .run)))
-
-          cut : Held e r ws (heapChunks h cs) []
-          cut =
-              subst (λ x. Held e r (splitUsedWords e w x k (s - k)) (heapChunks h cs) []) (sym (d .place))
-              (swap-step e r w (splitUsedWords e w a k (s - k)) h [] [] xs (used s ∷ []) (used k ∷ used (s - k) ∷ []) ys (d .whole) n
-              (split-used e w a (lastUse true xs) s (t .run .0) k (s - k) (omega arith) v (omega arith) (omega arith) (omega (arith, d .place, fits))) (λ x. omega arith) (λ x. refl))
-
-          first : Starts 0 cs p (used k)
-          first = starts-right 0 xs (used k ∷ used (s - k) ∷ ys) p (used k) (inl (d .place, refl))
+  -- the rest of the block then
+  pub lead-rest : (k : ℕ) → k % 2 ≡ 0 → 4 < k → k + 4 ≤ s → Starts 0 ((giveLead e h p s k) .chunks) (p + k) (used (s - k))
+  lead-rest k v big fit =
+      let g = lead-grants e h (heads-tidy e w h (n .near .heads)) p s st k v (λ _. big) fit in
+      subst (λ m. Starts 0 ((giveLead e h p s k) .chunks) (p + k) (used m)) (let y : g .words ≡ s - k = omega (arith, g .large, g .tight) in y) (g .block)
 
   -- ---- the tail
 
@@ -225,14 +217,6 @@ module _ (e : Edition) (r w : List ℕ) (h : Heap) (n : Held e r w h []) (p s : 
       ((pick z (cutBack e r w (enc e p) (enc e nb) (less e (enc e s) (enc e nb))) (store r w)) .words) (pick z (shrink e h p s nb) h) []) (ltb (nb + 4) s)
       (λ z _. cut (ltb-true (nb + 4) s z) (starts-split 0 (h .chunks) p (used s) st)) (λ z _. n) refl)
     where
-      near : s ≤ 8180
-      near = go (starts-split 0 (h .chunks) p (used s) st)
-        where
-          go : Split 0 (h .chunks) p (used s) → s ≤ 8180
-          go d =
-              let t = heads-right e w 0 true (d .before) (used s ∷ d .after) (h .top) (subst (λ c. Heads e w c (h .top)) (d .whole) (n .near .heads)) in
-              omega (arith, t .top .ends, end-ge (endOf 0 (d .before) + s) (d .after), n .near .most)
-
       bound : wrap e (enc e nb + W e * 4) ≡ enc e (nb + 4)
       bound = small-sum e nb 4 (omega (arith, near))
 
@@ -265,29 +249,14 @@ trim-obeys e r w h n r₀ w₀ p s k nb st v more fit vn l = ⊎-elim none-lead 
 
     some-lead : (k ≡ 0 → ⊥) → Obeys e r₀ w₀ (trimB e r w (enc e p) (enc e k) (enc e nb)) (some (trimmed e h p s k nb))
     some-lead z =
-        let led = lead-step e r w h n p s st k v (more z) (omega arith) in
-        rw (ne-eqb (enc e k) 0 (λ y. z (none-of e y)))
-        (subst (λ q. Obeys e r₀ w₀ (answering q (giveTailB e r₁ w₁ q (enc e nb))) (some (trimmed e h p s k nb))) (sym place) (refl, tail-step e r₁ w₁ (giveLead e h p s k) led (p + k) (s - k) rest nb vn l (omega arith)))
+        rw (ne-eqb (enc e k) 0 (λ y. z (none-of e y)), small-sum e p k (omega (arith, near e r w h n p s st)))
+        (refl, tail-step e r₁ w₁ (giveLead e h p s k) (lead-step e r w h n p s st k v (more z) (omega arith)) (p + k) (s - k) (lead-rest e r w h n p s st k v (more z) (omega arith)) nb vn l (omega arith))
       where
         r₁ : List ℕ
         r₁ = giveLeadB e r w (enc e p) (enc e k) .image
 
         w₁ : List ℕ
         w₁ = giveLeadB e r w (enc e p) (enc e k) .words
-
-        tidy : TidyHeap h
-        tidy = heads-tidy e w h (n .near .heads)
-
-        rest : Starts 0 ((giveLead e h p s k) .chunks) (p + k) (used (s - k))
-        rest = subst (λ q. Starts 0 ((giveLead e h p s k) .chunks) (p + k) (used q)) (let g = lead-grants e h tidy p s st k v more (omega arith) in let y : g .words ≡ s - k = omega (arith, g .large, g .tight) in y) (lead-grants e h tidy p s st k v more (omega arith) .block)
-
-        place : wrap e (enc e p + enc e k) ≡ enc e (p + k)
-        place = go (starts-split 0 (h .chunks) p (used s) st)
-          where
-            go : Split 0 (h .chunks) p (used s) → wrap e (enc e p + enc e k) ≡ enc e (p + k)
-            go d =
-                let t = heads-right e w 0 true (d .before) (used s ∷ d .after) (h .top) (subst (λ c. Heads e w c (h .top)) (d .whole) (n .near .heads)) in
-                small-sum e p k (omega (arith, d .place, t .top .ends, end-ge (endOf 0 (d .before) + s) (d .after), n .near .most))
 
 pub memalign-obeys : (e : Edition) (r w : List ℕ) (h : Heap) (al m nb : ℕ) → Held e r w h [] → al ≡ 2 * m → 4 ≤ al → al ≤ 1024 → nb % 2 ≡ 0 → 4 ≤ nb → W e * (nb + al + 4) < huge
     → Obeys e r w (memalignB e r w (enc e al) (enc e nb)) (memalign e h al nb)

@@ -138,9 +138,10 @@ module _ (w : List ℕ) (a : allowedCount (length w) ≡ true) where
   keeps es fs x n p u =
       let b = block-at (then w es) (heap es) (held es) x n p in
       let k = kept wide (then w es) (heap es) (held es) x (b .0) (b .1) fs u in
-      let g = H.goes wide (then w es) (heap es) (held es) fs in
-      (subst (LiveAt (after wide (then w es) fs) (blockOf wide x)) (sym (b .2)) (live-at (after wide (then w es) fs) (heapAfter wide (length (then w es .words)) (heap es) fs) (g .held) x (b .0) (k .stays)),
-      λ i l. k .words (x + 2 + i) (omega arith) (omega (arith, l, b .2)))
+      let g = H.goes wide (then w es) (heap es) (held es) fs in (
+        subst (LiveAt (after wide (then w es) fs) (blockOf wide x)) (sym (b .2)) (live-at (after wide (then w es) fs) (heapAfter wide (length (then w es .words)) (heap es) fs) (g .held) x (b .0) (k .stays)),
+        λ i l. k .words (x + 2 + i) (omega arith) (omega (arith, l, b .2)),
+      )
 
   pub reads-back : (es : List Event) (x n i v : ℕ) → LiveAt (then w es) (blockOf wide x) n → 8 * i < n → getD (after wide (then w es) (writes (blockOf wide x) i v ∷ []) .words) (x + 2 + i) 0 ≡ v
   reads-back es x n i v p l =
@@ -152,7 +153,7 @@ module _ (w : List ℕ) (a : allowedCount (length w) ≡ true) where
       let m = live-in wide s h (held es) off ∙ ap isSome z in
       let k = usable-in wide s h (held es) off (b .0) z in
       let y : writeB wide s off i v ≡ set (s .words) (x + 2 + i) v =
-        rw (m, lt-ltb (8 * i) (usableB wide (s .words) off) (subst (λ (q : ℕ). 8 * i < q) (sym k) (subst (λ (q : ℕ). 8 * i < q) (b .2) l)), word-of wide x) refl in
+      rw (m, lt-ltb (8 * i) (usableB wide (s .words) off) (subst (λ (q : ℕ). 8 * i < q) (sym k) (subst (λ (q : ℕ). 8 * i < q) (b .2) l)), word-of wide x) refl in
       ap (λ q. getD q (x + 2 + i) 0) y ∙ getD-set-same (s .words) (x + 2 + i) v 0 (omega (arith, l, b .2, starts-in′ 0 (h .chunks) x (used (b .0)) (b .1), held es .heads .top .ends))
 
   pub fresh-record : (es : List Event) → ((off n : ℕ) → LiveAt (then w es) off n → ⊥) → then w es .control ≡ freshControl wide (length w)

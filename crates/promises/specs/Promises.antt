@@ -18,12 +18,13 @@ use Rattle.rules.specs.Realloc.{resizeHere, front}
 use Rattle.rules.specs.Source.{Small}
 use Rattle.rules.specs.Calls.{Call, Malloc, Free, Realloc, Memalign, Usable, Answer, granted, done, bytes, refused, bad-count, allowedCount, isIn, alignments, blockOf, placeOf, liveSize, answerTo}
 use Rattle.holds.specs.Holds.{Control, Holds, Sound, freshControl}
-use Rattle.holds.specs.Governed.{Governed}
+use Rattle.holds.specs.Governed.{Governed, GovernedIn}
 use Rattle.holds.specs.NoRoom.{Tight}
 use Rattle.calls.specs.CallBytes.{refusal}
 use Rattle.calls.specs.Record.{emptyControl}
 use Rattle.calls.specs.RecordLaws.{Fits}
 use Rattle.calls.specs.ByValue.{Ends, ends, callA, setUpA}
+use Rattle.calls.specs.CallReach.{callVia, Copies}
 use Rattle.calls.specs.Histories.{Box, box, Event, writes, after, answers, heapAfter, setUpOn}
 use Rattle.calls.specs.InUse.{Ledger}
 use Rattle.calls.specs.Kept.{Untouched}
@@ -123,6 +124,8 @@ pub record TheRules : Type 0 where
   -- A resize tries its own place first: where that holds it, the block stays where it is.
   pub own-place-first : (c : Control) (w : List ℕ) (h g : Heap) (off n s : ℕ) → Holds wide c w h → n ≤ 8 * length w → liveSize wide 0 (h .chunks) off ≡ some s → ownPlace h off n ≡ some g
       → callA wide c w (Realloc off n) .answer ≡ granted off
+  -- Which words a call may change: those that are governed in a heap that it passes through, and those that a move copies into. No other.
+  pub reaches : (c : Control) (w : List ℕ) (h : Heap) (k : Call) (i : ℕ) → Holds wide c w h → (GovernedIn (callVia wide h k) i → ⊥) → (Copies wide h k i → ⊥) → getD (callA wide c w k .words) i 0 ≡ getD w i 0
   -- Usable is head size - 8: the chunk has s words.
   pub usable : (c : Control) (w : List ℕ) (h : Heap) (off s : ℕ) → Holds wide c w h → liveSize wide 0 (h .chunks) off ≡ some s → callA wide c w (Usable off) .answer ≡ bytes (8 * s - 8)
 

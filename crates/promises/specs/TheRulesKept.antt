@@ -7,7 +7,7 @@ use Prim.Native.Nat.{ℕ, _+_, _-_, _*_, _≤_, _<_}
 use native.Mathlib.Omega.{arith}
 use lib.Dec.{ltb}
 use borrow.Author.Tests.{ltb-false, le-ltb}
-use lib.ListN.{length}
+use lib.ListN.{length, getD}
 use Rattle.words.specs.Logic.{pick}
 use Rattle.words.specs.Edition.{wide}
 use Rattle.index.specs.Sizes.{needWords}
@@ -19,16 +19,18 @@ use Rattle.rules.specs.Source.{Small, Source, nowhere, from-top, from-chunk}
 use Rattle.rules.specs.Tidy.{starts-in′}
 use Rattle.rules.specs.Calls.{Call, Malloc, Realloc, Usable, Answer, granted, done, bytes, refused, too-many, refuse, blockOf, placeOf, liveSize, grantOr6, movedOr6, reallocCall, usableCall, answerTo}
 use Rattle.holds.specs.Holds.{Control, Holds}
+use Rattle.holds.specs.Governed.{GovernedIn}
 use Rattle.holds.specs.Ops.{state}
 use Rattle.holds.specs.MallocSource.{malloc-source}
 use Rattle.malloc.specs.MallocObeys.{serve-place}
 use Rattle.decides.specs.LiveLaws.{live-starts}
-use Rattle.calls.specs.CallBytes.{refusal}
+use Rattle.calls.specs.CallBytes.{Told, refusal}
 use Rattle.calls.specs.Record.{image}
 use Rattle.calls.specs.RecordLaws.{held-image}
 use Rattle.calls.specs.ByValue.{callA}
 use Rattle.calls.specs.CallObeys.{even, least, low}
-use Rattle.calls.specs.Histories.{box, calls-held}
+use Rattle.calls.specs.Histories.{box, let-through, calls-held}
+use Rattle.calls.specs.CallReach.{callVia, Copies, call-reaches}
 use Rattle.promises.specs.Promises.{TheRules, ownPlace}
 use Rattle.promises.specs.RowLaws.{place-is, found, own-is}
 
@@ -83,6 +85,14 @@ module _ (c : Control) (w : List ℕ) (h : Heap) (n : Holds wide c w h) where
       answer (Realloc off x) ∙ ap (λ z. pick z (refuse h too-many) (reallocCall wide h (liveSize wide 0 (h .chunks) off) off x) .answer) (le-ltb (8 * length w) x l)
       ∙ ap (λ z. reallocCall wide h z off x .answer) q ∙ ap (λ z. movedOr6 wide h (placeOf wide off) s z .answer) r ∙ ap granted (sym (a .2))
 
+  -- ---- which words
+
+  reaches : (k : Call) (i : ℕ) → (GovernedIn (callVia wide h k) i → ⊥) → (Copies wide h k i → ⊥) → getD (callA wide c w k .words) i 0 ≡ getD w i 0
+  unfolding callA
+  reaches k i f g =
+      let r = held-image wide c w h [] n in
+      ap (λ (t : Told). getD (t .words) i 0) (let-through wide (image c) w h r k) ∙ call-reaches wide (image c) w h r i k f g
+
   -- ---- usable
 
   usable : (off s : ℕ) → liveSize wide 0 (h .chunks) off ≡ some s → callA wide c w (Usable off) .answer ≡ bytes (8 * s - 8)
@@ -94,5 +104,6 @@ the-rules =
       obeys = λ c w h k n. let f = calls-held wide (box c w) h n k in (f .answer, f .held);
       bins-first = λ c w h x n q. bins-first c w h n x q;
       own-place-first = λ c w h g off x s n l q own. own-place-first c w h n g off x s l q own;
+      reaches = λ c w h k i n f g. reaches c w h n k i f g;
       usable = λ c w h off s n q. usable c w h n off s q;
     }

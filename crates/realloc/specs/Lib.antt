@@ -2,5 +2,7 @@
 pub mod ReallocBytes
 pub mod ReallocObeys
 pub mod ReallocFollows
+pub mod ResizeReach
 pub mod ResizeKeeps
 pub mod ReallocKeeps
+pub mod ReallocReach

@@ -67,7 +67,7 @@ copy-get w a q (suc n) b l k u =
 -- ---- the move: the block of s words at p goes to the block of t words at q
 
 module _ (e : Edition) (r w : List ℕ) (h : Heap) (n : Held e r w h []) (p s q t : ℕ) (sp : Starts 0 (h .chunks) p (used s)) (sq : Starts 0 (h .chunks) q (used t)) (fit : s ≤ t) where
-  some-size : 4 ≤ s
+  pub some-size : 4 ≤ s
   some-size = starts-at e w 0 true (h .chunks) p (used s) (n .near .heads .run) sp .1 .least
 
   old : p + s ≤ endOf 0 (h .chunks)
@@ -79,16 +79,16 @@ module _ (e : Edition) (r w : List ℕ) (h : Heap) (n : Held e r w h []) (p s q 
   long : endOf 0 (h .chunks) + 12 ≤ length w
   long = omega (arith, n .near .heads .top .ends, n .near .heads .top .least)
 
-  abbrev copied : List ℕ
+  abbrev pub copied : List ℕ
   copied = copyUp w (p + 2) (q + 2) (s - 1)
 
   only : OnlyOwned w copied q t
   only = copy-owned w (p + 2) q (s - 1) t (omega (arith, some-size))
 
-  held : Held e r copied h []
-  held = record { image = n .image; near = owner-writes e (decode r) w copied h [] q t (n .near) sq only }
+  pub copied-held : Held e r copied h []
+  copied-held = record { image = n .image; near = owner-writes e (decode r) w copied h [] q t (n .near) sq only }
 
-  move-is : moveBlock e r w (enc e p) (enc e q) ≡ disposeB e r copied (enc e p) (enc e s)
+  pub move-is : moveBlock e r w (enc e p) (enc e q) ≡ disposeB e r copied (enc e p) (enc e s)
   unfolding moveBlock copyWords
   move-is =
       rw (block-size e r w h [] p s n sp, dec-enc e p, dec-enc e q, count, le-ltb (length w) (s - 1) (omega (arith, old, long)), le-ltb (length w - (s - 1)) (p + 2) (omega (arith, old, long)), le-ltb (length w - (s - 1)) (q + 2) (omega (arith, new, long))) refl
@@ -105,11 +105,11 @@ module _ (e : Edition) (r w : List ℕ) (h : Heap) (n : Held e r w h []) (p s q 
       subst (λ y. Spares x k w (y .words)) (sym move-is)
       (spares-trans x k w copied (disposeB e r copied (enc e p) (enc e s) .words)
       (λ i lo hi. only .1 i (⊎-elim (λ y. inl (omega arith)) (λ y. inr (omega arith)) (used-beside e w (h .chunks) (h .top) (n .near .heads) x k sx q t sq nq)))
-      (dispose-spares e r copied h held p s sp x k sx np))
+      (dispose-spares e r copied h copied-held p s sp x k sx np))
 
   move-own : (q ≡ p → ⊥) → (k : ℕ) → k + 1 < s → getD (moveBlock e r w (enc e p) (enc e q) .words) (q + 2 + k) 0 ≡ getD w (p + 2 + k) 0
   move-own ne k u =
-      ap (λ y. getD (y .words) (q + 2 + k) 0) move-is ∙ dispose-spares e r copied h held p s sp q t sq ne (q + 2 + k) (omega arith) (omega arith)
+      ap (λ y. getD (y .words) (q + 2 + k) 0) move-is ∙ dispose-spares e r copied h copied-held p s sp q t sq ne (q + 2 + k) (omega arith) (omega arith)
       ∙ copy-get w (p + 2) q (s - 1) (⊎-elim (λ y. inr (omega (arith, some-size))) (λ y. inl (omega (arith, some-size))) (used-beside e w (h .chunks) (h .top) (n .near .heads) q t sq p s sp ne)) (omega (arith, new, long, some-size)) k (omega arith)
 
 -- ---- realloc, whole: the block of t words at p

@@ -74,7 +74,7 @@ module _ (e : Edition) (r w : List ℕ) (h : Heap) (n : Held e r w h []) (xs : L
   room : endOf (a + s) ys + h .top + 10 ≤ 8192
   room = omega (arith, tail .top .ends, n .near .most)
 
-  retiled : (new : List Chunk) → retile 0 (h .chunks) a new ≡ xs ++ (new ++ ys)
+  pub retiled : (new : List Chunk) → retile 0 (h .chunks) a new ≡ xs ++ (new ++ ys)
   retiled new = ap (λ c. retile 0 c a new) q ∙ retile-at 0 true xs (used s) ys new (run-tidy e w 0 true (xs ++ (used s ∷ ys)) (subst (λ c. Run e w 0 true c) q (n .near .heads .run)))
 
   -- ---- shrink

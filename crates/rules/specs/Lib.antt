@@ -20,4 +20,3 @@ pub mod Cutting
 pub mod ReallocLaws
 pub mod MemalignLaws
 pub mod Slips
-pub mod Stays

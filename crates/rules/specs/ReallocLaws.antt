@@ -37,7 +37,7 @@ shrink-grants e h p s nb t st v l fit =
 -- ---- grow
 
 -- in place: no room, or a grant there
-abbrev GrantsHere : Heap → ℕ → ℕ → Option Heap → Type 0
+abbrev pub GrantsHere : Heap → ℕ → ℕ → Option Heap → Type 0
 GrantsHere h p nb none = Unit {0}
 GrantsHere h p nb (some k) = Granted h k p nb (nb + 4) (λ x. x ≡ p)
 
@@ -85,7 +85,7 @@ module _ (e : Edition) (h : Heap) (t : TidyHeap h) (xs : List Chunk) (p s nb : �
   grow-grants (used n ∷ ys) q = tt
   grow-grants (free b ∷ ys) q = pick-case (GrantsHere h p nb) (leb nb (s + b)) (λ z. into-free b ys q (leb-true nb (s + b) z)) (λ _. tt)
 
-  resize-grants : (ys : List Chunk) → h .chunks ≡ xs ++ (used s ∷ ys) → Starts 0 (h .chunks) p (used s) → GrantsHere h p nb (resizeHere e h xs p s nb ys)
+  pub resize-grants : (ys : List Chunk) → h .chunks ≡ xs ++ (used s ∷ ys) → Starts 0 (h .chunks) p (used s) → GrantsHere h p nb (resizeHere e h xs p s nb ys)
   resize-grants ys q st = pick-case (GrantsHere h p nb) (leb nb s) (λ z. shrink-grants e h p s nb t st v l (leb-true nb s z)) (λ _. grow-grants ys q)
 
 -- ---- move

@@ -1,4 +1,4 @@
 -- Small bins: the words level, and that its steps keep what is held.
 pub mod SmallBytes
 pub mod SmallSteps
-pub mod SmallKeeps
+pub mod SmallReach

@@ -31,10 +31,10 @@ use Rattle.smallbin.specs.SmallBytes.{smallBinOf, linkNewW, joinW, inser
 
 -- ---- words
 
-new-plain : (e : Edition) (w : List ℕ) (q f : ℕ) → length w ≤ 8192 → linkNewW e w (enc e q) f ≡ writeW w (pushWrites e q f)
+pub new-plain : (e : Edition) (w : List ℕ) (q f : ℕ) → length w ≤ 8192 → linkNewW e w (enc e q) f ≡ writeW w (pushWrites e q f)
 new-plain e w q f l = rw (dec-enc e q) (ap (λ v. set (set v (q + 2) f) (q + 3) (noLink e)) (link-plain e w f 3 (enc e q) l))
 
-join-plain : (e : Edition) (w : List ℕ) (c : ℕ) → length w ≤ 8192 → joinW e w (word e w (enc e c) 2) (word e w (enc e c) 3) ≡ writeW w (cutWrites e (fld w) c)
+pub join-plain : (e : Edition) (w : List ℕ) (c : ℕ) → length w ≤ 8192 → joinW e w (word e w (enc e c) 2) (word e w (enc e c) 3) ≡ writeW w (cutWrites e (fld w) c)
 unfolding fld
 join-plain e w c l =
     rw (dec-enc e c) (ap (λ v. put e v (getD w (c + 3) 0) 2 (getD w (c + 2) 0)) (link-plain e w (getD w (c + 2) 0) 3 (getD w (c + 3) 0) l)
@@ -49,7 +49,7 @@ module _ (e : Edition) (r w : List ℕ) (h : Heap) (loose : List ℕ) (i : ℕ) 
   abbrev bin : List ℕ
   bin = getD (h .small) i []
 
-  link-is : linkOf small r i ≡ getD ((decode r) .heads) i 0
+  pub link-is : linkOf small r i ≡ getD ((decode r) .heads) i 0
   link-is = let q : i % 32 ≡ i = omega arith in ap (λ j. getD r (8 + j) 0) q ∙ get-link small r i l
 
   insert-at : (q : ℕ) → Held e r w h (q ∷ loose) → Starts 0 (h .chunks) q (free (binSize e i))

@@ -2,6 +2,7 @@
 pub mod Tiling
 pub mod Steps
 pub mod Free
+pub mod Reading
 pub mod Swaps
 pub mod Regrow
 pub mod Spares

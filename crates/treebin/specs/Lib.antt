@@ -9,5 +9,5 @@ pub mod TreeUnlinkWords
 pub mod TreeUnlinkSteps
 pub mod BinningSteps
 pub mod SearchSteps
-pub mod TreeKeeps
-pub mod BinningKeeps
+pub mod TreeReach
+pub mod BinningReach

@@ -1,6 +1,5 @@
--- THE STEPS OF TREE BINS LEAVE THE OWNER'S WORDS of every block in use: what insertion and unlinking write is a list of writes to the links of
--- the tree's members and of the chunk itself (`tries`: `insert-within`, `Unlinked`), and all of these are free chunks. Here the words in
--- bytes are brought to those lists. Assumes nothing.
+-- WHAT THE STEPS OF TREE BINS REACH: insertion and unlinking are lists of writes to the links of the tree's members, and of the newcomer
+-- (`tries`: `insert-within`, `Unlinked`). Here the words in bytes are brought to those lists. Assumes nothing.
 use mathlib.Core.Path.{_≡_, refl, sym, _∙_, ap, subst}
 use mathlib.Core.Bool.{false}
 use mathlib.Core.List.{List}
@@ -10,11 +9,10 @@ use lib.ListN.{getD}
 use borrow.Author.Tests.{eq-eqb, ne-eqb}
 use Rattle.words.specs.Logic.{pick}
 use Rattle.words.specs.Edition.{Edition, W, noLink, rootMark, none-free, enc}
-use Rattle.words.specs.Fields.{Write, fld, countL, writeW, length-writeW, Within}
-use Rattle.tiling.specs.Tiling.{used, free, Starts}
+use Rattle.words.specs.Fields.{Write, fld, countL, ind-self, writeW, length-writeW, Within}
+use Rattle.tiling.specs.Tiling.{free, Starts}
 use Rattle.tiling.specs.Free.{Roomy, roomy-spaced}
-use Rattle.tiling.specs.Spares.{Spares, spares-writes}
-use Rattle.tries.specs.Tree.{Tree, leaf, node, count, All}
+use Rattle.tries.specs.Tree.{Tree, leaf, node, count, All, insert, count-insert}
 use Rattle.tries.specs.TreeAt.{link, TreeAt}
 use Rattle.tries.specs.Shape.{Shaped}
 use Rattle.tries.specs.Insert.{first, locate, locateBin, locateT, insertWrites}
@@ -23,7 +21,7 @@ use Rattle.tries.specs.UnlinkWords.{back, round1, heir}
 use Rattle.tries.specs.UnlinkMem.{unlinkW}
 use Rattle.tries.specs.Unlinked.{unlinkWrites, Unlinked, unlinked}
 use Rattle.tries.specs.SearchMem.{shape-depth}
-use Rattle.rules.specs.BinOf.{isSmall, trieBin, trieBits, trieLow, InTrie, trie-aligned, trie-least}
+use Rattle.rules.specs.BinOf.{isSmall, trieBin, trieBits, trieLow, InTrie, trie-aligned}
 use Rattle.rules.specs.Heap.{Heap}
 use Rattle.holds.specs.Holds.{inDv}
 use Rattle.holds.specs.Bins.{sum-at}
@@ -32,14 +30,14 @@ use Rattle.holds.specs.Where.{free-head, trie-index, trie-roomy, size-bound}
 use Rattle.chunk.specs.Bytes.{tree, linkOf}
 use Rattle.chunk.specs.Image.{decode}
 use Rattle.chunk.specs.Held.{Held}
+use Rattle.chunk.specs.ChunkReach.{Among}
 use Rattle.treebin.specs.TreeBytes.{firstKey, seekB, tieW, seatW, insertLarge, unlinkLarge}
 use Rattle.treebin.specs.WayDown.{way-first, trie-early, few-bits}
 use Rattle.treebin.specs.TreeHeld.{Sized, root-is, nodes-sized}
 use Rattle.treebin.specs.TreeInsertSteps.{Seats, seek-is, tie-plain, seat-plain}
 use Rattle.treebin.specs.TreeUnlinkWords.{first-round, second-round}
 
-module _ (e : Edition) (r w : List ℕ) (h : Heap) (loose : List ℕ) (n : Held e r w h loose) (x t : ℕ) (sx : Starts 0 (h .chunks) x (used t))
-    (c s : ℕ) (z : isSmall e s ≡ false) (st : Starts 0 (h .chunks) c (free s)) where
+module _ (e : Edition) (r w : List ℕ) (h : Heap) (loose : List ℕ) (n : Held e r w h loose) (c s : ℕ) (z : isSmall e s ≡ false) (st : Starts 0 (h .chunks) c (free s)) where
   abbrev i : ℕ
   i = trieBin e s
 
@@ -51,13 +49,6 @@ module _ (e : Edition) (r w : List ℕ) (h : Heap) (loose : List ℕ) (n : Held 
 
   there : TreeAt e (fld w) i (rootMark e) bin
   there = n .near .tries .at i (index .0) .tree
-
-  -- what a list of writes to the bin's members and to c leaves
-  among : (us : List Write) → Within 8 (Roomy 8 (h .chunks)) us → Spares x t w (writeW w us)
-  among us ok = spares-writes e w (h .chunks) (h .top) (n .near .heads) x t sx 8 us ok
-
-  members : (y : ℕ) → 1 ≤ count y bin → Roomy 8 (h .chunks) y
-  members y u = trie-roomy e (decode r) w h loose (n .near) i (index .0) y u
 
   -- ---- into the bin: c is loose, or the spare chunk that is let go
 
@@ -72,11 +63,15 @@ module _ (e : Edition) (r w : List ℕ) (h : Heap) (loose : List ℕ) (n : Held 
     abbrev root : ℕ
     root = linkOf tree r i
 
+    -- a member of the bin, after it
+    abbrev Placed : ℕ → Type 0
+    Placed y = 1 ≤ count y (insert c s k bin)
+
     abbrev placed : List Write
     placed = insertWrites e (fld w) i c (locateBin e (fld w) k s v)
 
-    within : Within 8 (Roomy 8 (h .chunks)) placed
-    within = insert-within e (fld w) (Roomy 8 (h .chunks)) i k (trieLow e i) v c s bin members (s, st, trie-least e i s (index .1) .1) (record {
+    within : Within 8 Placed placed
+    within = insert-within e (fld w) Placed i k (trieLow e i) v c s bin (λ y u. omega (arith, count-insert y c s k bin)) (omega (arith, count-insert c c s k bin, ind-self c)) (record {
       aligned = trie-aligned e i;
       sized = index .1;
       shaped = n .near .tries .at i (index .0) .shape;
@@ -113,9 +108,9 @@ module _ (e : Edition) (r w : List ℕ) (h : Heap) (loose : List ℕ) (n : Held 
             (seek-is e w i i s 64 k (trieLow e i) (rootMark e) (firstKey e (enc e s) i) (node p ps s₀ a b) (omega (arith, few-bits e i (index .0))) tt (trie-aligned e i) (index .1) (way-first e i s early)
             (subst (Shaped k (trieLow e i)) q (n .near .tries .at i (index .0) .shape)) (subst (All (Sized e)) q (nodes-sized e r w h loose n i (index .0))) here)
 
-    pub insert-large-spares : Spares x t w (insertLarge e r w (enc e c) (enc e s) .words)
+    pub insert-large-among : Among 8 (λ y. 1 ≤ count y (insert c s (trieBits e (trieBin e s)) (getD (h .tries) (trieBin e s) leaf))) w (insertLarge e r w (enc e c) (enc e s) .words)
     unfolding insertLarge
-    insert-large-spares = subst (Spares x t w) (sym (words bin refl)) (among placed within)
+    insert-large-among = (placed, words bin refl, within)
       where
         words : (u : Tree) → bin ≡ u → insertLarge e r w (enc e c) (enc e s) .words ≡ writeW w placed
         words leaf q = rw (eq-eqb root (noLink e) (root-is e r w h loose n i (index .0) ∙ ap (link e) q)) (first-words q)
@@ -124,9 +119,9 @@ module _ (e : Edition) (r w : List ℕ) (h : Heap) (loose : List ℕ) (n : Held 
   -- ---- out of the bin, with 64 levels
 
   module _ (u : 1 ≤ count c bin) where
-    by-levels : (f : ℕ) → f ≡ 64 → Spares x t w (unlinkLarge e r w (enc e c) .words)
+    by-levels : (f : ℕ) → f ≡ 64 → Among 8 (λ y. 1 ≤ count y bin) w (unlinkLarge e r w (enc e c) .words)
     unfolding unlinkW
-    by-levels f levels = subst (Spares x t w) (sym (words ∙ g .words)) (among (unlinkWrites e (fld w) f c) (g .within))
+    by-levels f levels = (unlinkWrites e (fld w) f c, words ∙ g .words, g .within)
       where
         us : List Write
         us = round1 e (fld w) f c
@@ -134,11 +129,12 @@ module _ (e : Edition) (r w : List ℕ) (h : Heap) (loose : List ℕ) (n : Held 
         words : unlinkLarge e r w (enc e c) .words ≡ unlinkW e w f c
         words = ap (λ y. y .words) (first-round e w f levels c r) ∙ second-round e r (writeW w us) c (heir e (fld w) f c) (rw (length-writeW w us) (n .near .most))
 
-        g : Unlinked e w (Roomy 8 (h .chunks)) i f c bin
+        g : Unlinked e w (λ y. 1 ≤ count y bin) i f c bin
         g =
-            unlinked e w (Roomy 8 (h .chunks)) (Roomy 8 (h .chunks)) i f c bin (roomy-spaced e w (h .chunks) (h .top) (n .near .heads) 8) (λ y a. a) members
+            unlinked e w (Roomy 8 (h .chunks)) (λ y. 1 ≤ count y bin) i f c bin (roomy-spaced e w (h .chunks) (h .top) (n .near .heads) 8)
+            (λ y a. trie-roomy e (decode r) w h loose (n .near) i (index .0) y a) (λ y a. a)
             (omega (arith, few-bits e i (index .0), shape-depth (trieBits e i) (trieLow e i) bin (n .near .tries .at i (index .0) .shape)))
             (trie-once e (decode r) w h loose (n .near) i (index .0)) u there
 
-    pub unlink-large-spares : Spares x t w (unlinkLarge e r w (enc e c) .words)
-    unlink-large-spares = by-levels 64 refl
+    pub unlink-large-among : Among 8 (λ y. 1 ≤ count y (getD (h .tries) (trieBin e s) leaf)) w (unlinkLarge e r w (enc e c) .words)
+    unlink-large-among = by-levels 64 refl
