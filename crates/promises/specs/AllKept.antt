@@ -1,5 +1,4 @@
 -- ALL PROMISES ARE KEPT. Assumes nothing.
-use mathlib.Core.List.{List}
 use Rattle.words.specs.Edition.{wide}
 use Rattle.rules.specs.Heap.{freshHeap}
 use Rattle.calls.specs.Histories.{setUpOn}

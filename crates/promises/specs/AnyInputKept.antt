@@ -2,7 +2,7 @@
 -- calls obey; what a refusal leaves by what each call does on a sound pair. Assumes nothing.
 use mathlib.Core.Path.{_≡_, refl, sym, _∙_, subst}
 use mathlib.Core.Bool.{true, false}
-use mathlib.Core.List.{List, []}
+use mathlib.Core.List.{List}
 use mathlib.Core.Logic.{_↔_}
 use Prim.Native.Nat.{ℕ}
 use lib.ListN.{length}
@@ -10,10 +10,10 @@ use Rattle.words.specs.Logic.{pick-case}
 use Rattle.words.specs.Edition.{wide, noLink}
 use Rattle.tiling.specs.Steps.{freshWords}
 use Rattle.rules.specs.Heap.{Heap, freshHeap}
-use Rattle.rules.specs.Calls.{Call, Answer, granted, done, bytes, refused, bad-count, allowedCount, answerTo}
+use Rattle.rules.specs.Calls.{Call, Answer, granted, done, bytes, refused, bad-count, allowedCount}
 use Rattle.holds.specs.Holds.{Control, Holds, Sound, freshControl}
 use Rattle.holds.specs.Unique.{fresh-holds}
-use Rattle.sound.specs.SoundBytes.{countOk, soundB}
+use Rattle.sound.specs.SoundBytes.{soundB}
 use Rattle.decides.specs.SoundLaws.{sound-yes}
 use Rattle.calls.specs.CallBytes.{Told, refusal, Still, callB}
 use Rattle.calls.specs.Counts.{count-allowed, count-range}
@@ -23,7 +23,7 @@ use Rattle.calls.specs.ByValue.{ends, handedBack, callA, setUpA}
 use Rattle.calls.specs.CallObeys.{call-obeys}
 use Rattle.calls.specs.Rows as rows
 use Rattle.calls.specs.Histories.{box, calls-held}
-use Rattle.promises.specs.Promises.{AnyInput, Misaligned, TooLong, Dead, Full}
+use Rattle.promises.specs.Promises.{AnyInput}
 use Rattle.promises.specs.RowLaws.{Row, row-of, is-3, is-4, is-5, is-6}
 
 -- ---- rows

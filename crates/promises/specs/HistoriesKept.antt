@@ -1,26 +1,24 @@
 -- DEMAND 3 IS KEPT: after any history the record and the arena hold the rules' heap; a live block is a chunk in use of that heap, and what `calls` shows of
 -- chunks in use over whole histories is said of blocks here. Assumes nothing.
 use mathlib.Core.Path.{_≡_, refl, sym, _∙_, ap, subst}
-use mathlib.Core.Bool.{Bool, true, false}
+use mathlib.Core.Bool.{true}
 use mathlib.Core.List.{List, [], _∷_}
 use mathlib.Core.Option.{Option, none, some}
 use mathlib.Core.Logic.{_↔_, _⊎_, inl, inr, ⊎-elim}
-use Prim.Native.Nat.{ℕ, _+_, _-_, _*_, _/_, _%_, _≤_, _<_}
+use Prim.Native.Nat.{ℕ, _+_, _-_, _*_, _%_, _≤_, _<_}
 use native.Mathlib.Omega.{arith}
-use lib.Dec.{ltb}
 use borrow.Author.Tests.{lt-ltb}
 use lib.ListN.{length, getD, set, length-set}
 use lib.Seq.{getD-set-same}
-use Rattle.words.specs.Logic.{pick}
 use Rattle.words.specs.Edition.{wide}
-use Rattle.tiling.specs.Tiling.{Chunk, used, free, endOf, Starts}
+use Rattle.tiling.specs.Tiling.{Chunk, used, free, Starts}
 use Rattle.rules.specs.Heap.{Heap, freshHeap}
 use Rattle.rules.specs.Tidy.{starts-in′}
-use Rattle.rules.specs.Calls.{Call, Usable, Answer, bytes, refused, not-live, allowedCount, blockOf, liveSize, usableCall, answerTo}
+use Rattle.rules.specs.Calls.{Call, Usable, Answer, bytes, allowedCount, blockOf, liveSize, usableCall, answerTo}
 use Rattle.holds.specs.Holds.{freshControl}
 use Rattle.holds.specs.Unique.{NoneInUse}
 use Rattle.holds.specs.Lookup.{heads-tidy}
-use Rattle.sound.specs.SoundBytes.{liveB, usableB}
+use Rattle.sound.specs.SoundBytes.{usableB}
 use Rattle.decides.specs.LiveLaws.{isSome, Live, live-starts, starts-live}
 use Rattle.calls.specs.CallBytes.{refusal}
 use Rattle.calls.specs.Counts.{count-allowed, count-range}

@@ -1,11 +1,11 @@
 -- ONE INSTANCE, so that nothing on the page is empty: a history on 128 words with all calls and an owner's write, granted and refused. Its answers are
 -- computed by the rules, which the calls obey; the promises then tell the rest of this very history. Assumes nothing.
-use mathlib.Core.Path.{_≡_, refl, sym, _∙_, ap, subst}
+use mathlib.Core.Path.{_≡_, refl, sym, subst}
 use mathlib.Core.List.{List, [], _∷_}
 use mathlib.Core.Logic.{_⊎_, inl, inr, ⊎-elim}
-use Prim.Native.Nat.{ℕ, _+_, _*_, _≤_, _<_}
+use Prim.Native.Nat.{ℕ, _+_, _≤_, _<_}
 use native.Mathlib.Omega.{arith}
-use lib.ListN.{length, getD, replicate}
+use lib.ListN.{getD, replicate}
 use Rattle.words.specs.Edition.{wide}
 use Rattle.index.specs.Sizes.{needWords, need, roundUp}
 use Rattle.index.specs.TreeBin.{treeIndex, minSize}

@@ -23,7 +23,7 @@ use Rattle.holds.specs.NoRoom.{Tight}
 use Rattle.calls.specs.CallBytes.{refusal}
 use Rattle.calls.specs.Record.{emptyControl}
 use Rattle.calls.specs.RecordLaws.{Fits}
-use Rattle.calls.specs.ByValue.{Ends, ends, callA, setUpA}
+use Rattle.calls.specs.ByValue.{ends, callA, setUpA}
 use Rattle.calls.specs.CallReach.{callVia, Copies}
 use Rattle.calls.specs.Histories.{Box, box, Event, writes, after, answers, heapAfter, setUpOn}
 use Rattle.calls.specs.InUse.{Ledger}

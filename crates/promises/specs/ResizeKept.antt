@@ -2,9 +2,9 @@
 -- keep the block's (`realloc-keeps`). Assumes nothing.
 use mathlib.Core.Path.{_≡_, refl, sym, _∙_, ap, subst}
 use mathlib.Core.Bool.{Bool, true, false}
-use mathlib.Core.List.{List, []}
+use mathlib.Core.List.{[]}
 use mathlib.Core.Option.{Option, none, some}
-use Prim.Native.Nat.{ℕ, _+_, _-_, _*_, _≤_, _<_}
+use Prim.Native.Nat.{ℕ, _+_, _*_, _≤_, _<_}
 use native.Mathlib.Omega.{arith}
 use lib.Dec.{ltb}
 use borrow.Author.Tests.{ltb-false, le-ltb}
@@ -17,7 +17,7 @@ use Rattle.tiling.specs.Tiling.{used, Starts}
 use Rattle.rules.specs.Heap.{Heap}
 use Rattle.rules.specs.Malloc.{Grant}
 use Rattle.rules.specs.Realloc.{realloc}
-use Rattle.rules.specs.Calls.{Realloc, granted, refused, too-many, not-live, no-room, Outcome, refuse, blockOf, placeOf, liveSize, movedOr6, reallocCall, answerTo}
+use Rattle.rules.specs.Calls.{Realloc, granted, refused, too-many, not-live, no-room, Outcome, refuse, blockOf, liveSize, movedOr6, reallocCall, answerTo}
 use Rattle.holds.specs.Lookup.{heads-tidy}
 use Rattle.realloc.specs.ReallocBytes.{reallocB}
 use Rattle.realloc.specs.ReallocKeeps.{realloc-keeps}
@@ -27,7 +27,7 @@ use Rattle.calls.specs.Record.{image}
 use Rattle.calls.specs.RecordLaws.{held-image}
 use Rattle.calls.specs.ByValue.{callA}
 use Rattle.calls.specs.CallObeys.{chunk-plain, place-plain, place-low, even, least, low}
-use Rattle.calls.specs.Histories.{Box, box, asked, HeldIn, let-through, calls-held}
+use Rattle.calls.specs.Histories.{Box, asked, HeldIn, let-through, calls-held}
 use Rattle.promises.specs.Promises.{LiveAt}
 use Rattle.promises.specs.TheRulesKept.{value, granted-refused}
 use Rattle.promises.specs.HistoriesKept.{block-at}

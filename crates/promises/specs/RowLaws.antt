@@ -1,7 +1,7 @@
 -- WHICH ROW: on a heap that is held, the number that a call says is that of the first row of document 01's table that applies, and 0 where none
 -- does. By the rules' own tests, and the laws of "no room". Assumes nothing.
-use mathlib.Core.Path.{_≡_, refl, sym, _∙_, ap, subst}
-use mathlib.Core.Bool.{Bool, true, false}
+use mathlib.Core.Path.{_≡_, refl, sym, _∙_, ap}
+use mathlib.Core.Bool.{false}
 use mathlib.Core.List.{List, []}
 use mathlib.Core.Option.{Option, none, some}
 use mathlib.Core.Logic.{_↔_}

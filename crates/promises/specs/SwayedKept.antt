@@ -1,6 +1,6 @@
 -- WHAT MAY SWAY AN ANSWER: words that agree in the list hold one heap, and go on holding one; a heap that is held settles the record and the words of
 -- the list. Assumes nothing.
-use mathlib.Core.Path.{_≡_, sym, _∙_, ap, subst}
+use mathlib.Core.Path.{_≡_, sym, _∙_, subst}
 use mathlib.Core.List.{List, []}
 use Prim.Native.Nat.{ℕ}
 use lib.ListN.{length, getD}
