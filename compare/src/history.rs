@@ -245,10 +245,8 @@ impl Maker {
     }
 
     fn victim(&mut self, phase: Phase, view: &View) -> u64 {
-        let large: Vec<u64> = view
-            .used_large()
-            .filter(|b| self.live.contains(b))
-            .collect();
+        // every used chunk is a live block
+        let large: Vec<u64> = view.used_large().collect();
         if phase == Phase::OpenGaps && !large.is_empty() {
             self.rng.pick(&large)
         } else {

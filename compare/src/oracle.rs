@@ -176,6 +176,37 @@ impl Oracle {
         self.heap.record().treemap
     }
 
+    /// The record in the order of our 72 words; an empty small bin holds none.
+    pub fn image(&self) -> [u64; 72] {
+        let r = self.heap.record();
+        let mut image = [NONE; 72];
+        image[0] = r.smallmap.into();
+        image[1] = r.treemap.into();
+        if r.dvsize != 0 {
+            image[2] = self.offset(r.dv);
+        }
+        image[3] = r.dvsize as u64;
+        image[4] = self.offset(r.top);
+        image[5] = r.topsize as u64;
+        image[6] = self.bytes();
+        image[7] = 0;
+        for bin in 0..32 {
+            if r.smallmap >> bin & 1 == 1 {
+                image[8 + bin] = self.offset(r.newest[bin]);
+            }
+            if r.treemap >> bin & 1 == 1 {
+                image[40 + bin] = self.offset(r.roots[bin]);
+            }
+        }
+        image
+    }
+
+    /// Every word of the arena, as it stands.
+    pub fn words(&self) -> &[u64] {
+        let words = self.layout.size() / 8;
+        unsafe { std::slice::from_raw_parts(self.base.cast(), words) }
+    }
+
     /// Word k of the arena, as it stands.
     pub fn word(&self, k: u64) -> u64 {
         assert!(k * 8 < self.bytes());
@@ -199,11 +230,20 @@ impl Oracle {
     }
 
     fn as_link(&self, address: usize) -> u64 {
+        self.may_be_link(address).unwrap()
+    }
+
+    /// A word read as a pointer of the crate's, if it can be one.
+    pub fn may_be_link(&self, address: usize) -> Option<u64> {
+        let base = self.base as usize;
         match self.heap.slot(address) {
-            _ if address == 0 => NONE,
-            Slot::Small => NONE,
-            Slot::Tree => ROOT,
-            Slot::Elsewhere => self.offset(address),
+            _ if address == 0 => Some(NONE),
+            Slot::Small => Some(NONE),
+            Slot::Tree => Some(ROOT),
+            Slot::Elsewhere if (base..base + self.layout.size()).contains(&address) => {
+                Some(self.offset(address))
+            }
+            Slot::Elsewhere => None,
         }
     }
 

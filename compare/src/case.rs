@@ -1,0 +1,200 @@
+//! A case that can be played again: an arena, a history, and what was then changed in it. A failing one is shortened.
+use crate::damage::{self, Change};
+use crate::library::{Answer, Library, Ours};
+use crate::made_up;
+use crate::pair::Pair;
+use crate::steps::Step;
+use std::collections::HashMap;
+use std::fmt;
+use std::ops::Range;
+
+#[derive(Clone, Debug)]
+pub struct Case {
+    pub words: usize,
+    pub seed: u64,
+    /// a sound state from the seed, that no history need reach, instead of a fresh arena
+    pub made_up: bool,
+    pub steps: Vec<Step>,
+    /// with None only the steps are compared
+    pub changes: Option<Vec<Change>>,
+}
+
+impl Case {
+    /// What differs when the case is played; None where nothing does.
+    pub fn fails(&self, lib: &dyn Library) -> Option<String> {
+        let state = if self.made_up {
+            Ok(made_up::state(self.seed, self.words))
+        } else {
+            self.play(lib)
+        };
+        match (state, &self.changes) {
+            (Err(what), None) => Some(what),
+            // a history that differs by itself is another case
+            (Err(_), Some(_)) | (Ok(_), None) => None,
+            (Ok(state), Some(changes)) => {
+                damage::judge(lib, &damage::changed(&state, changes)).err()
+            }
+        }
+    }
+
+    fn play(&self, lib: &dyn Library) -> Result<Ours, String> {
+        let mut pair = Pair::fresh(lib, self.words, self.seed)?;
+        for step in &self.steps {
+            pair.step(*step)?;
+        }
+        Ok(pair.ours)
+    }
+
+    /// The case without some steps. Later ones then mean the blocks that they meant, wherever these stand now.
+    fn without(&self, lib: &dyn Library, left_out: Range<usize>) -> Option<Case> {
+        let mut whole = Pair::fresh(lib, self.words, self.seed).ok()?;
+        let mut less = Pair::fresh(lib, self.words, self.seed).ok()?;
+        let mut moved = HashMap::new();
+        let mut steps = Vec::new();
+        for (i, step) in self.steps.iter().enumerate() {
+            let was = whole.step(*step);
+            let last = was.is_err();
+            if !left_out.contains(&i) {
+                let now = step.of_block(|off| moved.get(&off).copied().unwrap_or(off));
+                steps.push(now);
+                let is = less.step(now);
+                // after a difference the crate knows of other blocks than we do: no step further
+                if is.is_err() {
+                    break;
+                }
+                if let (Some(was), Some(is)) = (granted(was, *step), granted(is, now)) {
+                    moved.insert(was, is);
+                }
+            }
+            if last {
+                break;
+            }
+        }
+        Some(Case {
+            steps,
+            ..self.clone()
+        })
+    }
+
+    /// A shorter case that still fails, on a smaller arena if one will do.
+    pub fn shortened(mut self, lib: &dyn Library) -> Case {
+        loop {
+            let before = (self.words, self.size(), self.steps.clone());
+            self = shorter_steps(self, lib);
+            self = shorter_changes(self, lib);
+            self = smaller_numbers(self, lib);
+            self = smaller_arena(self, lib);
+            if (self.words, self.size(), self.steps.clone()) == before {
+                return self;
+            }
+        }
+    }
+
+    fn size(&self) -> usize {
+        self.steps.len() + self.changes.as_ref().map_or(0, Vec::len)
+    }
+}
+
+/// The block that a step was granted.
+fn granted(told: Result<Option<Answer>, String>, step: Step) -> Option<u64> {
+    match (told, step) {
+        (Ok(Some(Answer { number: 0, value })), Step::Ask(ask)) if ask.grants() => Some(value),
+        _ => None,
+    }
+}
+
+/// Leaves out stretches of steps, halves first, single ones last.
+fn shorter_steps(mut case: Case, lib: &dyn Library) -> Case {
+    let mut stretch = case.steps.len().next_power_of_two();
+    while stretch > 0 {
+        let mut at = 0;
+        while at < case.steps.len() {
+            let part = at..(at + stretch).min(case.steps.len());
+            let mut plain = case.clone();
+            plain.steps.drain(part.clone());
+            let renamed = case.without(lib, part);
+            let mut tried = [Some(plain), renamed].into_iter().flatten();
+            match tried.find(|less| less.fails(lib).is_some()) {
+                Some(less) => case = less,
+                None => at += stretch,
+            }
+        }
+        stretch /= 2;
+    }
+    case
+}
+
+fn shorter_changes(mut case: Case, lib: &dyn Library) -> Case {
+    let count = case.changes.as_ref().map_or(0, Vec::len);
+    for at in (0..count).rev() {
+        let mut less = case.clone();
+        if let Some(changes) = &mut less.changes {
+            changes.remove(at);
+        }
+        if less.fails(lib).is_some() {
+            case = less;
+        }
+    }
+    case
+}
+
+/// Asks for less where that fails as well.
+fn smaller_numbers(mut case: Case, lib: &dyn Library) -> Case {
+    for at in 0..case.steps.len() {
+        let (Step::Ask(ask) | Step::AskLent(_, ask)) = case.steps[at] else {
+            continue;
+        };
+        let Some(bytes) = ask.bytes() else {
+            continue;
+        };
+        for less in [0, 24, 256, bytes / 4, bytes / 2]
+            .into_iter()
+            .filter(|n| *n < bytes)
+        {
+            let mut other = case.clone();
+            other.steps[at] = match case.steps[at] {
+                Step::AskLent(lent, _) => Step::AskLent(lent, ask.of_bytes(less)),
+                _ => Step::Ask(ask.of_bytes(less)),
+            };
+            if other.fails(lib).is_some() {
+                case = other;
+                break;
+            }
+        }
+    }
+    case
+}
+
+fn smaller_arena(case: Case, lib: &dyn Library) -> Case {
+    let sizes = [
+        16, 18, 20, 24, 32, 48, 64, 96, 128, 192, 256, 512, 1024, 2048, 4096,
+    ];
+    for words in sizes.into_iter().filter(|w| *w < case.words) {
+        let less = Case {
+            words,
+            ..case.clone()
+        };
+        if less.fails(lib).is_some() {
+            return less;
+        }
+    }
+    case
+}
+
+impl fmt::Display for Case {
+    fn fmt(&self, f: &mut fmt::Formatter) -> fmt::Result {
+        let how = if self.made_up {
+            "a made-up sound state"
+        } else {
+            "fresh"
+        };
+        writeln!(f, "{} words, {how}, seed {}", self.words, self.seed)?;
+        for step in &self.steps {
+            writeln!(f, "    {step}")?;
+        }
+        for change in self.changes.iter().flatten() {
+            writeln!(f, "    changed: {change}")?;
+        }
+        Ok(())
+    }
+}
