@@ -36,6 +36,8 @@ mod raw;
 pub mod reading;
 #[cfg(crate_there)]
 pub mod record;
+#[cfg(all(crate_there, library_there))]
+pub mod speed;
 #[cfg(crate_there)]
 pub mod steps;
 #[cfg(crate_there)]
