@@ -4,6 +4,7 @@ use crate::library::{Library, Ours, RECORD_WORDS};
 use crate::oracle::{NONE, ROOT};
 use crate::reading;
 use crate::steps::Ask;
+use crate::whole;
 use std::fmt;
 
 #[derive(Clone, Copy, Debug, PartialEq, Eq)]
@@ -78,7 +79,22 @@ pub fn judge(lib: &dyn Library, state: &Ours) -> Result<Found, String> {
             return Err(format!("{ask}: {answer}, but record or arena changed"));
         }
     }
-    Ok(Found { sound, calls: 7 })
+    odd_count(lib, &mut after)?;
+    Ok(Found { sound, calls: 9 })
+}
+
+/// Whatever the record is, with a word count that isn't allowed the answer is 1.
+fn odd_count(lib: &dyn Library, state: &mut Ours) -> Result<(), String> {
+    state.words.pop();
+    let before = state.clone();
+    let said = lib.sound(&state.record, &state.words);
+    let answer = state.ask(lib, Ask::Malloc(24))?;
+    if (said, answer.number) != (1, 1) || *state != before {
+        return Err(format!(
+            "without the last word: the check {said}, malloc 24 {answer}"
+        ));
+    }
+    Ok(())
 }
 
 /// The first used chunk's block, as far as heads can be followed.
@@ -96,11 +112,11 @@ fn some_block(state: &Ours) -> u64 {
 }
 
 /// The words that document 01 says something about, in a sound state, and the chunks.
-struct Places {
-    words: Vec<usize>,
-    chunks: Vec<u64>,
-    free: Vec<u64>,
-    trees: Vec<u64>,
+pub struct Places {
+    pub words: Vec<usize>,
+    pub chunks: Vec<u64>,
+    pub free: Vec<u64>,
+    pub trees: Vec<u64>,
 }
 
 fn places(state: &Ours) -> Places {
@@ -137,20 +153,24 @@ fn places(state: &Ours) -> Places {
 /// One to three changes of a sound state: mostly of words and numbers that matter, mostly to values that look right.
 pub fn changes(rng: &mut Rng, state: &Ours) -> Vec<Change> {
     let places = places(state);
-    if rng.chance(25) {
-        let whole = whole_change(rng, state, &places);
+    if rng.chance(35) {
+        let whole = whole::change(rng, state, &places);
         if !whole.is_empty() {
             return whole;
         }
     }
     let count = rng.pick(&[1, 1, 1, 1, 2, 2, 3]);
     (0..count)
-        .map(|_| match rng.below(10) {
-            0..=5 => {
+        .map(|_| match rng.below(12) {
+            0..=2 if !places.trees.is_empty() => {
+                let k = rng.pick(&places.trees) as usize / 8 + 2 + rng.below(6) as usize;
+                Change::Word(k, value(rng, state, &places, state.words[k]))
+            }
+            0..=6 => {
                 let k = rng.pick(&places.words);
                 Change::Word(k, value(rng, state, &places, state.words[k]))
             }
-            6..=8 => {
+            7..=10 => {
                 let i = record_word(rng, state);
                 Change::Record(i, value(rng, state, &places, state.record[i]))
             }
@@ -191,84 +211,5 @@ fn value(rng: &mut Rng, state: &Ours, places: &Places, old: u64) -> u64 {
         13 => state.record[rng.below(RECORD_WORDS as u64) as usize],
         14 => rng.pick(&[state.record[4], state.record[2], state.record[6], 1 << 32]),
         _ => rng.draw() << rng.below(17),
-    }
-}
-
-/// Several words that fit together: some such states are sound, most only nearly.
-fn whole_change(rng: &mut Rng, state: &Ours, places: &Places) -> Vec<Change> {
-    let at = |chunk: u64, k: u64| (chunk / 8 + k) as usize;
-    let word = |chunk: u64, k: u64| state.words[at(chunk, k)];
-    let size = |chunk: u64| word(chunk, 1) & !7;
-    let set = |chunk: u64, k: u64, value: u64| Change::Word(at(chunk, k), value);
-    match rng.below(8) {
-        // a tree node's children change sides
-        0 if !places.trees.is_empty() => {
-            let node = rng.pick(&places.trees);
-            vec![set(node, 4, word(node, 5)), set(node, 5, word(node, 4))]
-        }
-        // a bin goes to another, with the maps and the tree's index
-        1 => {
-            let filled = |i: &usize| state.record[*i] != NONE;
-            let Some(from) = (8..RECORD_WORDS).rev().find(filled) else {
-                return Vec::new();
-            };
-            let base = if from < 40 { 8 } else { 40 };
-            let to = base + rng.below(32) as usize;
-            let map = usize::from(base == 40);
-            let bits = state.record[map] & !(1 << (from - base)) | 1 << (to - base);
-            let head = state.record[from];
-            let mut all = vec![Change::Record(from, NONE), Change::Record(to, head)];
-            all.push(Change::Record(map, bits));
-            if base == 40 {
-                all.push(set(head, 7, (to - 40) as u64));
-            }
-            all
-        }
-        // the spare chunk is forgotten, or another free chunk becomes it as well
-        2 => vec![Change::Record(2, NONE), Change::Record(3, 0)],
-        3 if !places.free.is_empty() => {
-            let other = rng.pick(&places.free);
-            vec![Change::Record(2, other), Change::Record(3, size(other))]
-        }
-        // a free chunk becomes used, all flags told: sound where it was the spare one and that is dropped
-        4 if !places.free.is_empty() => {
-            let chunk = rng.pick(&places.free);
-            let next = chunk + size(chunk);
-            let mut all = vec![
-                set(chunk, 1, word(chunk, 1) | 2),
-                set(next, 1, word(next, 1) | 1),
-            ];
-            if rng.chance(70) && state.record[2] == chunk {
-                all.extend([Change::Record(2, NONE), Change::Record(3, 0)]);
-            }
-            all
-        }
-        // a used chunk becomes free, and the spare one: sound where no free one adjoins and there was none
-        5 if !places.chunks.is_empty() => {
-            let chunk = rng.pick(&places.chunks);
-            let next = chunk + size(chunk);
-            let mut all = vec![
-                set(chunk, 1, word(chunk, 1) & !2),
-                set(next, 1, word(next, 1) & !1),
-            ];
-            all.push(set(next, 0, size(chunk)));
-            all.extend([Change::Record(2, chunk), Change::Record(3, size(chunk))]);
-            all
-        }
-        // two neighbours in one: sound where both are used
-        6 if places.chunks.len() > 1 => {
-            let i = rng.below(places.chunks.len() as u64 - 1) as usize;
-            let (a, b) = (places.chunks[i], places.chunks[i + 1]);
-            vec![set(a, 1, word(a, 1) + size(b))]
-        }
-        // one cut in two: sound where it was used and both parts are large enough
-        7 if !places.chunks.is_empty() => {
-            let chunk = rng.pick(&places.chunks);
-            let first = 16 * (1 + rng.below(size(chunk) / 16));
-            let head = word(chunk, 1);
-            let rest = size(chunk).wrapping_sub(first);
-            vec![set(chunk, 1, head - rest), set(chunk + first, 1, rest + 3)]
-        }
-        _ => Vec::new(),
     }
 }

@@ -31,15 +31,19 @@ impl Figures {
         self.sizes.insert(words);
     }
 
+    pub fn wrote(&mut self) {
+        self.writes += 1;
+    }
+
+    /// A call and its answer.
     pub fn add(&mut self, step: Step, answer: Answer) {
-        let (Step::Ask(ask) | Step::AskLent(_, ask)) = step else {
-            self.writes += 1;
-            return;
-        };
         if answer.number != 0 {
             self.refusals[answer.number as usize] += 1;
             return;
         }
+        let Step::Ask(ask) = step else {
+            return;
+        };
         match ask {
             Ask::Malloc(_) => self.malloc += 1,
             Ask::Memalign(..) => self.memalign += 1,
@@ -69,10 +73,11 @@ impl Figures {
 
 impl fmt::Display for Figures {
     fn fmt(&self, f: &mut fmt::Formatter) -> fmt::Result {
+        writeln!(f, "| what | how many |\n|---|---|")?;
         let mut row = |name: &str, n: u64| writeln!(f, "| {name} | {} |", grouped(n));
         row("histories", self.histories)?;
         row("arena sizes", self.sizes.len() as u64)?;
-        row("arena sizes there are", SIZES)?;
+        row("- of so many", SIZES)?;
         row("calls in lockstep", self.calls())?;
         row("grants", self.grants())?;
         row("- malloc", self.malloc)?;
@@ -84,6 +89,7 @@ impl fmt::Display for Figures {
         for number in 1..7 {
             row(&format!("refusal {number}"), self.refusals[number])?;
         }
+        row("owners' writes", self.writes)?;
         row("damaged and made-up pairs", self.pairs)?;
         row("- of these sound", self.sound_pairs)?;
         row("- calls on them", self.pair_calls)?;

@@ -367,11 +367,10 @@ impl View {
     fn of(heap: &Oracle) -> View {
         let chunks = heap.chunks();
         let free = chunks.iter().copied().filter(|c| !c.used).collect();
-        let topsize = heap.top().1;
         View {
             chunks,
             free,
-            topsize,
+            topsize: heap.top().1,
         }
     }
 

@@ -12,6 +12,8 @@ pub mod history;
 #[allow(dead_code, clippy::all)]
 mod inside;
 #[cfg(crate_there)]
+pub mod lent;
+#[cfg(crate_there)]
 pub mod library;
 #[cfg(crate_there)]
 pub mod lockstep;
@@ -42,6 +44,8 @@ pub mod speed;
 pub mod steps;
 #[cfg(crate_there)]
 pub mod table;
+#[cfg(crate_there)]
+pub mod whole;
 
 /// The system below the crate: its own trait, as its lib.rs declares it.
 ///

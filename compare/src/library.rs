@@ -79,6 +79,13 @@ pub fn fresh_record(bytes: u64) -> [u64; RECORD_WORDS] {
     record
 }
 
+/// What a refused set-up hands back: every place none, every other number 0.
+pub fn empty_record() -> [u64; RECORD_WORDS] {
+    let mut record = [NONE; RECORD_WORDS];
+    record[..8].copy_from_slice(&[0, 0, NONE, 0, NONE, 0, 0, 0]);
+    record
+}
+
 impl Ours {
     /// Set-up over words as they stand; an error says what isn't as document 01 has it.
     pub fn fresh(lib: &dyn Library, words: Vec<u64>) -> Result<Ours, String> {

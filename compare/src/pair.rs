@@ -1,8 +1,9 @@
 //! Our library and the crate on the same arena, step by step.
-use crate::library::{unwritten, Answer, Library, Ours, RECORD_WORDS};
+use crate::lent;
+use crate::library::{fresh_record, Answer, Library, Ours};
 use crate::look;
 use crate::oracle::Oracle;
-use crate::steps::{word, Ask, Lent, Step};
+use crate::steps::{word, Ask, Step};
 
 pub struct Pair<'a> {
     lib: &'a dyn Library,
@@ -11,6 +12,7 @@ pub struct Pair<'a> {
     before: Ours,
     /// by offset / 16: a block that was granted and not since given back or moved
     live: Vec<bool>,
+    blocks: usize,
 }
 
 impl<'a> Pair<'a> {
@@ -26,6 +28,7 @@ impl<'a> Pair<'a> {
             before: ours.clone(),
             ours,
             live: vec![false; words / 2 + 1],
+            blocks: 0,
         };
         look::differs(&pair.heap, &pair.ours, &pair.live)?;
         Ok(pair)
@@ -35,7 +38,9 @@ impl<'a> Pair<'a> {
     pub fn step(&mut self, step: Step) -> Result<Option<Answer>, String> {
         match step {
             Step::Ask(ask) => self.ask(ask).map(Some),
-            Step::AskLent(lent, ask) => self.ask_lent(lent, ask).map(Some),
+            Step::AskLent(..) | Step::SetUp(_) | Step::Sound(_) => {
+                lent::refused(self.lib, &self.ours, step).map(Some)
+            }
             Step::Write(k, value) => {
                 if self.owned(k) {
                     self.write(k, value);
@@ -140,6 +145,11 @@ impl<'a> Pair<'a> {
         self.settle(ask, answer);
         look::differs(&self.heap, &self.ours, &self.live)
             .map_err(|what| format!("after {ask}: {answer}, {what}"))?;
+        if self.blocks == 0 && self.ours.record != fresh_record(self.heap.bytes()) {
+            return Err(format!(
+                "after {ask}: all is given back, but the record is not fresh"
+            ));
+        }
         Ok(answer)
     }
 
@@ -150,42 +160,11 @@ impl<'a> Pair<'a> {
         }
         if let Ask::Free(off) | Ask::Realloc(off, _) = ask {
             self.live[off as usize / 16] = false;
+            self.blocks -= 1;
         }
-        if let Ask::Malloc(_) | Ask::Realloc(..) | Ask::Memalign(..) = ask {
+        if ask.grants() {
             self.live[answer.value as usize / 16] = true;
+            self.blocks += 1;
         }
-    }
-
-    /// Refusals 1 and 2 for what is lent; nothing may change, and without room for it no answer is written.
-    fn ask_lent(&self, lent: Lent, ask: Ask) -> Result<Answer, String> {
-        let mut record = self.ours.record.to_vec();
-        let mut words = self.ours.words.clone();
-        let mut out = unwritten(2);
-        match lent {
-            Lent::Words(n) => words.resize(n, 0),
-            Lent::Record(n) => record.resize(n, 0),
-            Lent::Out(n) => out.truncate(n),
-        }
-        let before = (record.clone(), words.clone());
-        let returned = self.lib.ask(ask, &mut record, &mut words, &mut out);
-        let same = |n: usize| n == self.ours.words.len();
-        let (expected, told) = match lent {
-            Lent::Record(RECORD_WORDS) | Lent::Out(2..) => return Ok(Answer::granted(0)),
-            Lent::Words(n) if same(n) => return Ok(Answer::granted(0)),
-            Lent::Words(n) if n % 2 != 0 || !(16..=8192).contains(&n) => (1, vec![1, 0]),
-            Lent::Words(_) => (2, vec![2, 0]),
-            Lent::Record(_) => (2, unwritten(2)),
-            Lent::Out(n) => (2, unwritten(n)),
-        };
-        let step = Step::AskLent(lent, ask);
-        if (returned, &out) != (expected, &told) {
-            return Err(format!(
-                "{step}: {returned} {out:?}, not {expected} {told:?}"
-            ));
-        }
-        if (record, words) != before {
-            return Err(format!("{step}: record or arena changed"));
-        }
-        Ok(Answer::refused(expected))
     }
 }

@@ -35,9 +35,13 @@ pub fn probe(rng: &mut Rng, pair: &Pair) -> Step {
             Some(block) => Step::Ask(Ask::Usable(block)),
             None => Step::Ask(Ask::Usable(dead)),
         },
-        _ => {
+        10 => {
             let block = pair.live_from(any).unwrap_or(dead);
             Step::AskLent(lent(rng, bytes as usize / 8), ask(rng, block, bytes))
+        }
+        _ => {
+            let lent = lent(rng, bytes as usize / 8);
+            rng.pick(&[Step::SetUp(lent), Step::Sound(lent)])
         }
     }
 }

@@ -27,6 +27,10 @@ pub enum Lent {
 pub enum Step {
     Ask(Ask),
     AskLent(Lent, Ask),
+    /// set-up with what doesn't fit
+    SetUp(Lent),
+    /// the check with what doesn't fit
+    Sound(Lent),
     /// the owner of a word of the arena writes it; nothing where it has none
     Write(u64, u64),
     /// the owner of a block fills it with [`word`]s of a seed; nothing where there is no such block
@@ -40,7 +44,7 @@ impl Step {
             Step::Ask(ask) => Step::Ask(ask.of_block(other)),
             Step::AskLent(lent, ask) => Step::AskLent(lent, ask.of_block(other)),
             Step::Fill(block, seed) => Step::Fill(other(block), seed),
-            Step::Write(..) => self,
+            Step::SetUp(_) | Step::Sound(_) | Step::Write(..) => self,
         }
     }
 }
@@ -103,13 +107,23 @@ impl fmt::Display for Ask {
     }
 }
 
+impl fmt::Display for Lent {
+    fn fmt(&self, f: &mut fmt::Formatter) -> fmt::Result {
+        match self {
+            Lent::Words(n) => write!(f, "lent {n} words"),
+            Lent::Record(n) => write!(f, "lent a record of {n} words"),
+            Lent::Out(n) => write!(f, "lent {n} words for the answer"),
+        }
+    }
+}
+
 impl fmt::Display for Step {
     fn fmt(&self, f: &mut fmt::Formatter) -> fmt::Result {
         match self {
             Step::Ask(ask) => write!(f, "{ask}"),
-            Step::AskLent(Lent::Words(n), ask) => write!(f, "{ask}, lent {n} words"),
-            Step::AskLent(Lent::Record(n), ask) => write!(f, "{ask}, lent a record of {n} words"),
-            Step::AskLent(Lent::Out(n), ask) => write!(f, "{ask}, lent {n} words for the answer"),
+            Step::AskLent(lent, ask) => write!(f, "{ask}, {lent}"),
+            Step::SetUp(lent) => write!(f, "set-up, {lent}"),
+            Step::Sound(lent) => write!(f, "the check, {lent}"),
             Step::Write(k, value) => write!(f, "the owner of word {k} writes {value}"),
             Step::Fill(block, seed) => {
                 write!(f, "the owner of block {block} fills it, seed {seed}")
