@@ -3,7 +3,7 @@ use crate::damage::{self, Change};
 use crate::library::{Answer, Library, Ours};
 use crate::made_up;
 use crate::pair::Pair;
-use crate::steps::Step;
+use crate::steps::{Ask, Step};
 use std::collections::HashMap;
 use std::fmt;
 use std::ops::Range;
@@ -45,8 +45,9 @@ impl Case {
         Ok(pair.ours)
     }
 
-    /// The case without some steps. Later ones then mean the blocks that they meant, wherever these stand now.
-    fn without(&self, lib: &dyn Library, left_out: Range<usize>) -> Option<Case> {
+    /// The case without some steps, or with another instead. Later steps then mean the blocks that they meant, wherever
+    /// these stand now.
+    fn with(&self, lib: &dyn Library, out: Range<usize>, instead: Option<Step>) -> Option<Case> {
         let mut whole = Pair::fresh(lib, self.words, self.seed).ok()?;
         let mut less = Pair::fresh(lib, self.words, self.seed).ok()?;
         let mut moved = HashMap::new();
@@ -54,8 +55,12 @@ impl Case {
         for (i, step) in self.steps.iter().enumerate() {
             let was = whole.step(*step);
             let last = was.is_err();
-            if !left_out.contains(&i) {
-                let now = step.of_block(|off| moved.get(&off).copied().unwrap_or(off));
+            let stays = match out.contains(&i) {
+                true => instead.filter(|_| i == out.start),
+                false => Some(*step),
+            };
+            if let Some(other) = stays {
+                let now = other.of_block(|off| moved.get(&off).copied().unwrap_or(off));
                 steps.push(now);
                 let is = less.step(now);
                 // after a difference the crate knows of other blocks than we do: no step further
@@ -112,7 +117,7 @@ fn shorter_steps(mut case: Case, lib: &dyn Library) -> Case {
             let part = at..(at + stretch).min(case.steps.len());
             let mut plain = case.clone();
             plain.steps.drain(part.clone());
-            let renamed = case.without(lib, part);
+            let renamed = case.with(lib, part, None);
             let mut tried = [Some(plain), renamed].into_iter().flatten();
             match tried.find(|less| less.fails(lib).is_some()) {
                 Some(less) => case = less,
@@ -138,31 +143,40 @@ fn shorter_changes(mut case: Case, lib: &dyn Library) -> Case {
     case
 }
 
-/// Asks for less where that fails as well.
+/// Asks for less, and plainly, where that fails as well.
 fn smaller_numbers(mut case: Case, lib: &dyn Library) -> Case {
-    for at in 0..case.steps.len() {
-        let (Step::Ask(ask) | Step::AskLent(_, ask)) = case.steps[at] else {
-            continue;
-        };
-        let Some(bytes) = ask.bytes() else {
-            continue;
-        };
-        for less in [0, 24, 256, bytes / 4, bytes / 2]
-            .into_iter()
-            .filter(|n| *n < bytes)
-        {
-            let mut other = case.clone();
-            other.steps[at] = match case.steps[at] {
-                Step::AskLent(lent, _) => Step::AskLent(lent, ask.of_bytes(less)),
-                _ => Step::Ask(ask.of_bytes(less)),
-            };
-            if other.fails(lib).is_some() {
-                case = other;
+    let mut at = 0;
+    while at < case.steps.len() {
+        let part = at..at + 1;
+        for other in simpler(case.steps[at]) {
+            let mut plain = case.clone();
+            plain.steps[at] = other;
+            let renamed = case.with(lib, part.clone(), Some(other));
+            let mut tried = [Some(plain), renamed].into_iter().flatten();
+            if let Some(less) = tried.find(|less| less.fails(lib).is_some()) {
+                case = less;
                 break;
             }
         }
+        at += 1;
     }
     case
+}
+
+/// What could stand for a call, the simplest first.
+fn simpler(step: Step) -> Vec<Step> {
+    let Step::Ask(ask) = step else {
+        return Vec::new();
+    };
+    let bytes = ask.bytes().unwrap_or(0);
+    let less = [0, 24, 256, bytes / 4, bytes / 2];
+    let less = less.into_iter().filter(|n| *n < bytes);
+    let plain = match ask {
+        Ask::Memalign(_, n) => vec![Ask::Malloc(n)],
+        _ => Vec::new(),
+    };
+    let all = plain.into_iter().chain(less.map(|n| ask.of_bytes(n)));
+    all.map(Step::Ask).collect()
 }
 
 fn smaller_arena(case: Case, lib: &dyn Library) -> Case {

@@ -40,8 +40,9 @@ fn every_word(heap: &Oracle, ours: &Ours) -> Result<(), String> {
         for k in part {
             let (a, b) = (ours.words[k], theirs[k]);
             let index = a < 32 && b & 0xffff_ffff == a;
-            if a != b && !index && heap.may_be_link(b as usize) != Some(a) {
-                return Err(format!("word {k}: ours {a}, the crate's {b}"));
+            let link = heap.may_be_link(b as usize);
+            if a != b && !index && link != Some(a) {
+                return exactly(k as u64, a, link.unwrap_or(b));
             }
         }
     }

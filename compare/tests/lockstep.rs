@@ -103,7 +103,7 @@ fn a_wrong_child() {
         }
     };
     let steps = found(&Wrong { after }, "word");
-    assert!(steps <= 8);
+    assert!(steps <= 12);
 }
 
 #[test]
