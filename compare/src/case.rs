@@ -20,14 +20,18 @@ pub struct Case {
 }
 
 impl Case {
+    /// Where the case starts.
+    pub fn start<'a>(&self, lib: &'a dyn Library) -> Result<Pair<'a>, String> {
+        if self.made_up {
+            Pair::holding(lib, made_up::state(self.seed, self.words))
+        } else {
+            Pair::fresh(lib, self.words, self.seed)
+        }
+    }
+
     /// What differs when the case is played; None where nothing does.
     pub fn fails(&self, lib: &dyn Library) -> Option<String> {
-        let state = if self.made_up {
-            Ok(made_up::state(self.seed, self.words))
-        } else {
-            self.play(lib)
-        };
-        match (state, &self.changes) {
+        match (self.play(lib), &self.changes) {
             (Err(what), None) => Some(what),
             // a history that differs by itself is another case
             (Err(_), Some(_)) | (Ok(_), None) => None,
@@ -38,7 +42,7 @@ impl Case {
     }
 
     fn play(&self, lib: &dyn Library) -> Result<Ours, String> {
-        let mut pair = Pair::fresh(lib, self.words, self.seed)?;
+        let mut pair = self.start(lib)?;
         for step in &self.steps {
             pair.step(*step)?;
         }
@@ -48,8 +52,8 @@ impl Case {
     /// The case without some steps, or with another instead. Later steps then mean the blocks that they meant, wherever
     /// these stand now.
     fn with(&self, lib: &dyn Library, out: Range<usize>, instead: Option<Step>) -> Option<Case> {
-        let mut whole = Pair::fresh(lib, self.words, self.seed).ok()?;
-        let mut less = Pair::fresh(lib, self.words, self.seed).ok()?;
+        let mut whole = self.start(lib).ok()?;
+        let mut less = self.start(lib).ok()?;
         let mut moved = HashMap::new();
         let mut steps = Vec::new();
         for (i, step) in self.steps.iter().enumerate() {
@@ -84,12 +88,12 @@ impl Case {
     /// A shorter case that still fails, on a smaller arena if one will do.
     pub fn shortened(mut self, lib: &dyn Library) -> Case {
         loop {
-            let before = (self.words, self.size(), self.steps.clone());
+            let before = (self.words, self.made_up, self.size(), self.steps.clone());
             self = shorter_steps(self, lib);
             self = shorter_changes(self, lib);
             self = smaller_numbers(self, lib);
             self = smaller_arena(self, lib);
-            if (self.words, self.size(), self.steps.clone()) == before {
+            if (self.words, self.made_up, self.size(), self.steps.clone()) == before {
                 return self;
             }
         }
@@ -179,10 +183,18 @@ fn simpler(step: Step) -> Vec<Step> {
     all.map(Step::Ask).collect()
 }
 
+/// A fresh arena, or one with fewer words.
 fn smaller_arena(case: Case, lib: &dyn Library) -> Case {
     let sizes = [
         16, 18, 20, 24, 32, 48, 64, 96, 128, 192, 256, 512, 1024, 2048, 4096,
     ];
+    let fresh = Case {
+        made_up: false,
+        ..case.clone()
+    };
+    if case.made_up && fresh.fails(lib).is_some() {
+        return fresh;
+    }
     for words in sizes.into_iter().filter(|w| *w < case.words) {
         let less = Case {
             words,
@@ -203,6 +215,10 @@ impl fmt::Display for Case {
             "fresh"
         };
         writeln!(f, "{} words, {how}, seed {}", self.words, self.seed)?;
+        if self.made_up {
+            let state = made_up::state(self.seed, self.words);
+            writeln!(f, "    chunks: {}", made_up::told(&state))?;
+        }
         for step in &self.steps {
             writeln!(f, "    {step}")?;
         }

@@ -1,4 +1,5 @@
 //! What a run of the lockstep comparison looked at.
+use crate::case::Case;
 use crate::damage::Found;
 use crate::library::Answer;
 use crate::lockstep::SIZES;
@@ -9,6 +10,7 @@ use std::fmt;
 #[derive(Default, Debug)]
 pub struct Figures {
     histories: u64,
+    made_up: u64,
     sizes: BTreeSet<usize>,
     malloc: u64,
     realloc: u64,
@@ -26,9 +28,10 @@ pub struct Figures {
 }
 
 impl Figures {
-    pub fn start(&mut self, words: usize) {
+    pub fn start(&mut self, case: &Case) {
         self.histories += 1;
-        self.sizes.insert(words);
+        self.made_up += u64::from(case.made_up);
+        self.sizes.insert(case.words);
     }
 
     pub fn wrote(&mut self) {
@@ -76,6 +79,7 @@ impl fmt::Display for Figures {
         writeln!(f, "| what | how many |\n|---|---|")?;
         let mut row = |name: &str, n: u64| writeln!(f, "| {name} | {} |", grouped(n));
         row("histories", self.histories)?;
+        row("- from a made-up sound state", self.made_up)?;
         row("arena sizes", self.sizes.len() as u64)?;
         row("- of so many", SIZES)?;
         row("calls in lockstep", self.calls())?;

@@ -38,6 +38,8 @@ mod raw;
 pub mod reading;
 #[cfg(crate_there)]
 pub mod record;
+#[cfg(crate_there)]
+pub mod rng;
 #[cfg(all(crate_there, library_there))]
 pub mod speed;
 #[cfg(crate_there)]

@@ -81,15 +81,17 @@ fn history(lib: &dyn Library, setting: Setting, figures: &mut Figures) -> Result
     let mut case = Case {
         words: setting.words,
         seed: setting.seed,
-        made_up: false,
+        // every third
+        made_up: setting.seed.is_multiple_of(3),
         steps: Vec::new(),
         changes: None,
     };
-    let mut pair = match Pair::fresh(lib, setting.words, setting.seed) {
+    let mut pair = match case.start(lib) {
         Ok(pair) => pair,
         Err(_) => return Err(Box::new(case)),
     };
-    figures.start(setting.words);
+    maker.knows(pair.blocks());
+    figures.start(&case);
     for _ in 0..setting.calls {
         let call = maker.next(&pair.heap);
         let granted = take(&mut pair, &mut case, figures, Step::Ask(call.into()))?;

@@ -30,6 +30,24 @@ pub fn state(seed: u64, words: usize) -> Ours {
     heap
 }
 
+/// The chunks of a state in words.
+pub fn told(state: &Ours) -> String {
+    let (top, topsize) = (state.record[4], state.record[5]);
+    let mut text = String::new();
+    let mut at = 0;
+    while at < top {
+        let head = state.words[at as usize / 8 + 1];
+        let kind = match head & 2 {
+            _ if at == state.record[2] => "spare",
+            0 => "free",
+            _ => "used",
+        };
+        text += &format!("{at} {kind} {}, ", head & !7);
+        at += head & !7;
+    }
+    text + &format!("{top} top {topsize}")
+}
+
 fn put(heap: &mut Ours, chunk: u64, k: u64, value: u64) {
     heap.words[(chunk / 8 + k) as usize] = value;
 }

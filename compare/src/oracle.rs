@@ -1,5 +1,6 @@
 //! The crate over one fixed arena. Every place is a byte offset from the arena's start.
 use crate::inside::{Dlmalloc, Slot};
+use crate::library::Ours;
 use crate::Allocator;
 use std::alloc::{alloc_zeroed, dealloc, Layout};
 use std::cell::Cell;
@@ -100,6 +101,50 @@ impl Oracle {
         let refused = unsafe { heap.malloc(words * 8) };
         assert!(refused.is_null() && heap.record().top == base as usize);
         Oracle { heap, base, layout }
+    }
+
+    /// The crate in a sound state of ours, as if its own calls had led there.
+    pub fn holding(ours: &Ours) -> Oracle {
+        let mut oracle = Oracle::new(ours.words.len());
+        for (k, word) in ours.words.iter().enumerate() {
+            oracle.set_word(k as u64, *word);
+        }
+        let base = oracle.base as usize;
+        let oldest = |bin: usize| {
+            let older = |chunk: u64| ours.words[chunk as usize / 8 + 2];
+            let mut chunk = ours.record[8 + bin];
+            while older(chunk) != NONE {
+                chunk = older(chunk);
+            }
+            chunk
+        };
+        oracle.heap.load(&ours.record, base, oldest);
+        for chunk in oracle.chunks().into_iter().filter(|c| !c.used) {
+            if chunk.offset != ours.record[2] {
+                oracle.load_links(chunk);
+            }
+        }
+        oracle
+    }
+
+    /// Makes a binned chunk's links pointers.
+    fn load_links(&mut self, chunk: Chunk) {
+        let small = chunk.size < 256;
+        let bin = if small {
+            chunk.size / 8
+        } else {
+            self.chunk_word(chunk.offset, 7)
+        };
+        let (small_slot, tree_slot) = self.heap.slots(bin as usize);
+        for k in if small { 2..=3 } else { 2..=6 } {
+            let address = match self.chunk_word(chunk.offset, k) {
+                NONE if small => small_slot,
+                NONE => 0,
+                ROOT => tree_slot,
+                offset => self.base as usize + offset as usize,
+            };
+            self.set_word(chunk.offset / 8 + k, address as u64);
+        }
     }
 
     /// The arena's byte length.

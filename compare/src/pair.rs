@@ -22,16 +22,37 @@ impl<'a> Pair<'a> {
         let fill = |k: usize| word(seed, k as u64, bytes);
         let heap = Oracle::filled(words, fill);
         let ours = Ours::fresh(lib, (0..words).map(fill).collect())?;
+        Pair::of(lib, heap, ours)
+    }
+
+    /// Both in a sound state, whatever led there.
+    pub fn holding(lib: &'a dyn Library, state: Ours) -> Result<Pair<'a>, String> {
+        Pair::of(lib, Oracle::holding(&state), state)
+    }
+
+    fn of(lib: &'a dyn Library, heap: Oracle, ours: Ours) -> Result<Pair<'a>, String> {
+        let mut live = vec![false; ours.words.len() / 2 + 1];
+        let mut blocks = 0;
+        for chunk in heap.chunks().iter().filter(|c| c.used) {
+            live[chunk.offset as usize / 16 + 1] = true;
+            blocks += 1;
+        }
         let pair = Pair {
             lib,
             heap,
             before: ours.clone(),
             ours,
-            live: vec![false; words / 2 + 1],
-            blocks: 0,
+            live,
+            blocks,
         };
         look::differs(&pair.heap, &pair.ours, &pair.live)?;
         Ok(pair)
+    }
+
+    /// The live blocks.
+    pub fn blocks(&self) -> impl Iterator<Item = u64> + '_ {
+        let all = self.live.iter().enumerate();
+        all.filter(|(_, live)| **live).map(|(k, _)| k as u64 * 16)
     }
 
     /// Takes a step on both; an error says what differs.
