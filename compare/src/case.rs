@@ -7,6 +7,7 @@ use crate::steps::{Ask, Step};
 use std::collections::HashMap;
 use std::fmt;
 use std::ops::Range;
+use std::time::{Duration, Instant};
 
 #[derive(Clone, Debug)]
 pub struct Case {
@@ -85,15 +86,17 @@ impl Case {
         })
     }
 
-    /// A shorter case that still fails, on a smaller arena if one will do.
-    pub fn shortened(mut self, lib: &dyn Library) -> Case {
+    /// A shorter case that still fails, on a smaller arena if one will do; as short as it gets within the time.
+    pub fn shortened(mut self, lib: &dyn Library, time: Duration) -> Case {
+        let until = Instant::now() + time;
         loop {
             let before = (self.words, self.made_up, self.size(), self.steps.clone());
-            self = shorter_steps(self, lib);
             self = shorter_changes(self, lib);
-            self = smaller_numbers(self, lib);
-            self = smaller_arena(self, lib);
-            if (self.words, self.made_up, self.size(), self.steps.clone()) == before {
+            self = smaller_arena(self, lib, until);
+            self = shorter_steps(self, lib, until);
+            self = smaller_numbers(self, lib, until);
+            let after = (self.words, self.made_up, self.size(), self.steps.clone());
+            if after == before || Instant::now() > until {
                 return self;
             }
         }
@@ -113,11 +116,11 @@ fn granted(told: Result<Option<Answer>, String>, step: Step) -> Option<u64> {
 }
 
 /// Leaves out stretches of steps, halves first, single ones last.
-fn shorter_steps(mut case: Case, lib: &dyn Library) -> Case {
+fn shorter_steps(mut case: Case, lib: &dyn Library, until: Instant) -> Case {
     let mut stretch = case.steps.len().next_power_of_two();
     while stretch > 0 {
         let mut at = 0;
-        while at < case.steps.len() {
+        while at < case.steps.len() && Instant::now() < until {
             let part = at..(at + stretch).min(case.steps.len());
             let mut plain = case.clone();
             plain.steps.drain(part.clone());
@@ -148,9 +151,9 @@ fn shorter_changes(mut case: Case, lib: &dyn Library) -> Case {
 }
 
 /// Asks for less, and plainly, where that fails as well.
-fn smaller_numbers(mut case: Case, lib: &dyn Library) -> Case {
+fn smaller_numbers(mut case: Case, lib: &dyn Library, until: Instant) -> Case {
     let mut at = 0;
-    while at < case.steps.len() {
+    while at < case.steps.len() && Instant::now() < until {
         let part = at..at + 1;
         for other in simpler(case.steps[at]) {
             let mut plain = case.clone();
@@ -184,7 +187,7 @@ fn simpler(step: Step) -> Vec<Step> {
 }
 
 /// A fresh arena, or one with fewer words.
-fn smaller_arena(case: Case, lib: &dyn Library) -> Case {
+fn smaller_arena(case: Case, lib: &dyn Library, until: Instant) -> Case {
     let sizes = [
         16, 18, 20, 24, 32, 48, 64, 96, 128, 192, 256, 512, 1024, 2048, 4096,
     ];
@@ -200,7 +203,7 @@ fn smaller_arena(case: Case, lib: &dyn Library) -> Case {
             words,
             ..case.clone()
         };
-        if less.fails(lib).is_some() {
+        if Instant::now() < until && less.fails(lib).is_some() {
             return less;
         }
     }

@@ -80,8 +80,8 @@ impl fmt::Display for Figures {
         let mut row = |name: &str, n: u64| writeln!(f, "| {name} | {} |", grouped(n));
         row("histories", self.histories)?;
         row("- from a made-up sound state", self.made_up)?;
-        row("arena sizes", self.sizes.len() as u64)?;
-        row("- of so many", SIZES)?;
+        let sizes = format!("arena sizes, of {} allowed", grouped(SIZES));
+        row(&sizes, self.sizes.len() as u64)?;
         row("calls in lockstep", self.calls())?;
         row("grants", self.grants())?;
         row("- malloc", self.malloc)?;

@@ -8,9 +8,13 @@ use crate::made_up;
 use crate::pair::Pair;
 use crate::probes;
 use crate::steps::{Ask, Step};
+use std::time::Duration;
 
 /// Even word counts from 16 to 8,192.
 pub const SIZES: u64 = 4_089;
+
+/// How long a case that differs is shortened.
+const SHORTENING: Duration = Duration::from_secs(60);
 
 /// `lockstep [CALLS [SEED]]`
 #[cfg(library_there)]
@@ -46,7 +50,7 @@ pub fn compare(lib: &dyn Library, calls: u64, seed: u64) -> Result<Figures, Stri
 /// What a difference comes down to.
 fn report(lib: &dyn Library, case: Case) -> String {
     let (steps, words) = (case.steps.len(), case.words);
-    let short = case.shortened(lib);
+    let short = case.shortened(lib, SHORTENING);
     let what = short
         .fails(lib)
         .unwrap_or_else(|| "not seen again".to_string());
