@@ -74,14 +74,37 @@ proved() {
     archive "$work/abi.o"
 }
 
+# Copies the libraries' sources. Without proofs each sees the names of all, and a module may not have a library's name:
+# such a module gets another in the copy.
+copy_libraries() { # FOLDER
+    for lib in "$root"/crates/*/src/lib.rt; do
+        name=${lib#"$root/crates/"}
+        name=${name%%/*}
+        mkdir -p "$1/$name"
+        cp -R "$root/crates/$name/src" "$1/$name/"
+    done
+    for lib in "$1"/*/src/lib.rt; do
+        name=${lib#"$1/"}
+        name=${name%%/*}
+        for module in $(sed -n 's/^\(pub \)\{0,1\}mod \([a-z_]*\);$/\2/p' "$lib"); do
+            [ -d "$1/$module" ] || continue
+            mv "$1/$name/src/$module.rt" "$1/$name/src/${module}_here.rt"
+            sed -i "s/^\(pub mod\|mod\) $module;/\1 ${module}_here;/" "$lib"
+            find "$1/$name" -name '*.rt' -exec sed -i "s/crate::$module\>/crate::${module}_here/g" {} +
+            find "$1" -name '*.rt' -exec sed -i "s/\<$name::$module\>/$name::${module}_here/g" {} +
+        done
+    done
+}
+
 unproved() {
     keeping_toolchain "$work/toolchain"
     early=$root/compare/early
     mkdir -p "$work/early/src"
     cp "$early/main.rt" "$work/early/src/"
+    copy_libraries "$work/crates"
     set -- --lib "std=$kit/libs/std/src/lib.rt"
-    for lib in "$root"/crates/*/src/lib.rt; do
-        name=${lib#"$root/crates/"}
+    for lib in "$work"/crates/*/src/lib.rt; do
+        name=${lib#"$work/crates/"}
         set -- "$@" --lib "${name%%/*}=$lib"
     done
     "$own/bin/rattle-cases" --toolchain "$work/toolchain" "$work/early/src/main.rt" --crate-name early "$@"
