@@ -1,49 +1,7 @@
 //! Seeded histories of calls, each made in view of the heap as it stands, so that exact fits,
 //! small remainders and an exhausted top come up often.
 use crate::oracle::{Chunk, Oracle};
-
-/// xorshift64*: the same seed gives the same history everywhere.
-pub struct Rng(u64);
-
-impl Rng {
-    pub fn new(seed: u64) -> Rng {
-        let mut rng = Rng(seed.wrapping_mul(0x9e37_79b9_7f4a_7c15) | 1);
-        for _ in 0..4 {
-            rng.draw();
-        }
-        rng
-    }
-
-    pub fn draw(&mut self) -> u64 {
-        self.0 ^= self.0 >> 12;
-        self.0 ^= self.0 << 25;
-        self.0 ^= self.0 >> 27;
-        self.0.wrapping_mul(0x2545_f491_4f6c_dd1d) >> 16
-    }
-
-    pub fn below(&mut self, n: u64) -> u64 {
-        self.draw() % n.max(1)
-    }
-
-    pub fn chance(&mut self, percent: u64) -> bool {
-        self.below(100) < percent
-    }
-
-    pub fn pick<T: Copy>(&mut self, from: &[T]) -> T {
-        from[self.below(from.len() as u64) as usize]
-    }
-
-    fn weighted(&mut self, weights: &[u64]) -> usize {
-        let mut left = self.below(weights.iter().sum());
-        for (i, w) in weights.iter().enumerate() {
-            if left < *w {
-                return i;
-            }
-            left -= w;
-        }
-        weights.len() - 1
-    }
-}
+pub use crate::rng::Rng;
 
 #[derive(Clone, Copy, Debug, PartialEq, Eq)]
 pub enum Call {
@@ -233,6 +191,11 @@ impl Maker {
         }
     }
 
+    /// Blocks that are live before the first call.
+    pub fn knows(&mut self, blocks: impl Iterator<Item = u64>) {
+        self.live.extend(blocks);
+    }
+
     /// Keeps the list of live blocks.
     pub fn settle(&mut self, call: Call, answer: Option<u64>) {
         self.crowded = answer.is_none() && !matches!(call, Call::Free(_));
@@ -245,10 +208,8 @@ impl Maker {
     }
 
     fn victim(&mut self, phase: Phase, view: &View) -> u64 {
-        let large: Vec<u64> = view
-            .used_large()
-            .filter(|b| self.live.contains(b))
-            .collect();
+        // every used chunk is a live block
+        let large: Vec<u64> = view.used_large().collect();
         if phase == Phase::OpenGaps && !large.is_empty() {
             self.rng.pick(&large)
         } else {
@@ -369,11 +330,10 @@ impl View {
     fn of(heap: &Oracle) -> View {
         let chunks = heap.chunks();
         let free = chunks.iter().copied().filter(|c| !c.used).collect();
-        let topsize = heap.top().1;
         View {
             chunks,
             free,
-            topsize,
+            topsize: heap.top().1,
         }
     }
 

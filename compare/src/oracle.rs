@@ -1,5 +1,6 @@
 //! The crate over one fixed arena. Every place is a byte offset from the arena's start.
 use crate::inside::{Dlmalloc, Slot};
+use crate::library::Ours;
 use crate::Allocator;
 use std::alloc::{alloc_zeroed, dealloc, Layout};
 use std::cell::Cell;
@@ -102,6 +103,50 @@ impl Oracle {
         Oracle { heap, base, layout }
     }
 
+    /// The crate in a sound state of ours, as if its own calls had led there.
+    pub fn holding(ours: &Ours) -> Oracle {
+        let mut oracle = Oracle::new(ours.words.len());
+        for (k, word) in ours.words.iter().enumerate() {
+            oracle.set_word(k as u64, *word);
+        }
+        let base = oracle.base as usize;
+        let oldest = |bin: usize| {
+            let older = |chunk: u64| ours.words[chunk as usize / 8 + 2];
+            let mut chunk = ours.record[8 + bin];
+            while older(chunk) != NONE {
+                chunk = older(chunk);
+            }
+            chunk
+        };
+        oracle.heap.load(&ours.record, base, oldest);
+        for chunk in oracle.chunks().into_iter().filter(|c| !c.used) {
+            if chunk.offset != ours.record[2] {
+                oracle.load_links(chunk);
+            }
+        }
+        oracle
+    }
+
+    /// Makes a binned chunk's links pointers.
+    fn load_links(&mut self, chunk: Chunk) {
+        let small = chunk.size < 256;
+        let bin = if small {
+            chunk.size / 8
+        } else {
+            self.chunk_word(chunk.offset, 7)
+        };
+        let (small_slot, tree_slot) = self.heap.slots(bin as usize);
+        for k in if small { 2..=3 } else { 2..=6 } {
+            let address = match self.chunk_word(chunk.offset, k) {
+                NONE if small => small_slot,
+                NONE => 0,
+                ROOT => tree_slot,
+                offset => self.base as usize + offset as usize,
+            };
+            self.set_word(chunk.offset / 8 + k, address as u64);
+        }
+    }
+
     /// The arena's byte length.
     pub fn bytes(&self) -> u64 {
         self.layout.size() as u64
@@ -176,6 +221,37 @@ impl Oracle {
         self.heap.record().treemap
     }
 
+    /// The record in the order of our 72 words; an empty small bin holds none.
+    pub fn image(&self) -> [u64; 72] {
+        let r = self.heap.record();
+        let mut image = [NONE; 72];
+        image[0] = r.smallmap.into();
+        image[1] = r.treemap.into();
+        if r.dvsize != 0 {
+            image[2] = self.offset(r.dv);
+        }
+        image[3] = r.dvsize as u64;
+        image[4] = self.offset(r.top);
+        image[5] = r.topsize as u64;
+        image[6] = self.bytes();
+        image[7] = 0;
+        for bin in 0..32 {
+            if r.smallmap >> bin & 1 == 1 {
+                image[8 + bin] = self.offset(r.newest[bin]);
+            }
+            if r.treemap >> bin & 1 == 1 {
+                image[40 + bin] = self.offset(r.roots[bin]);
+            }
+        }
+        image
+    }
+
+    /// Every word of the arena, as it stands.
+    pub fn words(&self) -> &[u64] {
+        let words = self.layout.size() / 8;
+        unsafe { std::slice::from_raw_parts(self.base.cast(), words) }
+    }
+
     /// Word k of the arena, as it stands.
     pub fn word(&self, k: u64) -> u64 {
         assert!(k * 8 < self.bytes());
@@ -199,11 +275,20 @@ impl Oracle {
     }
 
     fn as_link(&self, address: usize) -> u64 {
+        self.may_be_link(address).unwrap()
+    }
+
+    /// A word read as a pointer of the crate's, if it can be one.
+    pub fn may_be_link(&self, address: usize) -> Option<u64> {
+        let base = self.base as usize;
         match self.heap.slot(address) {
-            _ if address == 0 => NONE,
-            Slot::Small => NONE,
-            Slot::Tree => ROOT,
-            Slot::Elsewhere => self.offset(address),
+            _ if address == 0 => Some(NONE),
+            Slot::Small => Some(NONE),
+            Slot::Tree => Some(ROOT),
+            Slot::Elsewhere if (base..base + self.layout.size()).contains(&address) => {
+                Some(self.offset(address))
+            }
+            Slot::Elsewhere => None,
         }
     }
 

@@ -29,7 +29,9 @@ pub const HISTORIES: u64 = 140;
 /// `record [FILE [FIRST_SEED [HISTORIES]]]`
 pub fn run() {
     let words: Vec<String> = env::args().skip(1).collect();
-    let file = words.first().map_or("../crates/recorded/stdin", String::as_str);
+    let file = words
+        .first()
+        .map_or("../crates/recorded/stdin", String::as_str);
     let number = |i: usize, other: u64| words.get(i).map_or(other, |w| w.parse().unwrap());
     let (text, counts) = recorded(number(1, 1), number(2, HISTORIES));
     fs::write(file, &text).unwrap();

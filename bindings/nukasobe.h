@@ -1,0 +1,72 @@
+/* Nukasobe: dlmalloc over one arena of 16 to 8,192 words of 8 bytes (an even number).
+ *
+ * The caller keeps two things: the record, 72 words, and the arena. Places are byte offsets from the arena's start; none is
+ * 2^64 - 1. No call keeps an address, so both may be moved between calls. The record, the arena and `out` must not overlap,
+ * and each must have as many words as is said. Their contents may be anything at all: each call checks them first.
+ *
+ * Every call returns the number of its refusal, 0 for a grant or a "done", and writes two words to `out`: that number, and
+ * the value told below (0 where none is told; for refusal 5 the offset that was asked about). A refused call changes
+ * neither the record nor the arena. A record of another length than 72 words or an `out` below 2 is answered with 2, and
+ * then nothing at all is written. */
+#ifndef NUKASOBE_H
+#define NUKASOBE_H
+
+#include <stddef.h>
+#include <stdint.h>
+
+#ifdef __cplusplus
+extern "C" {
+#endif
+
+/* The words of the record: smallmap, treemap, dv, dvsize, top, topsize, length, a word that is 0, 32 small bins' newest
+ * chunks, 32 tree bins' roots. */
+#define NUKA_RECORD_WORDS 72
+#define NUKA_OUT_WORDS 2
+#define NUKA_NONE UINT64_MAX
+
+/* When the library says no, in the order in which it asks. */
+enum nuka_refusal {
+    NUKA_OK = 0,
+    NUKA_WORD_COUNT = 1, /* the arena's word count is odd, below 16 or above 8,192 */
+    NUKA_NOT_SOUND = 2,  /* record and arena are not sound, or not a pair */
+    NUKA_ALIGNMENT = 3,  /* memalign: the alignment is none of 32, 64, .. 4,096 */
+    NUKA_TOO_MANY = 4,   /* more bytes than the arena has */
+    NUKA_NOT_LIVE = 5,   /* no live block starts at the offset */
+    NUKA_NO_ROOM = 6     /* nothing that is free is large enough */
+};
+
+/* Makes a fresh heap of the whole arena: writes the record and two words of the arena. Knows only refusal 1, and then
+ * writes the empty record (every place none, every other number 0), with which every call is refused. */
+uint64_t nuka_setup(uint64_t *rec, size_t rec_words, uint64_t *arena, size_t words, uint64_t *out, size_t out_words);
+
+/* A block of at least so many bytes, aligned to 16; the value is its offset. Refusals 1, 2, 4, 6. */
+uint64_t nuka_malloc(uint64_t *rec, size_t rec_words, uint64_t *arena, size_t words, uint64_t *out, size_t out_words,
+                     uint64_t bytes);
+
+/* Takes the block at the offset back. Refusals 1, 2, 5. */
+uint64_t nuka_free(uint64_t *rec, size_t rec_words, uint64_t *arena, size_t words, uint64_t *out, size_t out_words,
+                   uint64_t offset);
+
+/* Makes the block at the offset so many bytes long, in its place where that can be, else elsewhere; its words go with it.
+ * The value is its offset now. Refused, the block stays as it was. Refusals 1, 2, 4, 5, 6. */
+uint64_t nuka_realloc(uint64_t *rec, size_t rec_words, uint64_t *arena, size_t words, uint64_t *out, size_t out_words,
+                      uint64_t offset, uint64_t bytes);
+
+/* A block whose offset is a multiple of the alignment, one of 32, 64, .. 4,096; the value is its offset.
+ * Refusals 1, 2, 3, 4, 6. */
+uint64_t nuka_memalign(uint64_t *rec, size_t rec_words, uint64_t *arena, size_t words, uint64_t *out, size_t out_words,
+                       uint64_t alignment, uint64_t bytes);
+
+/* The value is how many bytes the owner of the block at the offset has, from the offset on; always whole words.
+ * Changes nothing. Refusals 1, 2, 5. */
+uint64_t nuka_usable(const uint64_t *rec, size_t rec_words, const uint64_t *arena, size_t words, uint64_t *out,
+                     size_t out_words, uint64_t offset);
+
+/* 0 when record and arena are sound, else 1 or 2: the refusal that every call would give. Changes nothing. */
+uint64_t nuka_sound(const uint64_t *rec, size_t rec_words, const uint64_t *arena, size_t words);
+
+#ifdef __cplusplus
+}
+#endif
+
+#endif

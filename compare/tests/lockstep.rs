@@ -1,0 +1,149 @@
+//! The lockstep comparison finds nothing in the linked library, and finds what is wrong in others and shortens it.
+#![cfg(all(crate_there, library_there))]
+use compare::library::{Library, Linked};
+use compare::lockstep::compare;
+use compare::steps::Ask;
+
+const CALLS: u64 = 200_000;
+const NONE: u64 = u64::MAX;
+
+#[test]
+fn the_library_differs_nowhere() {
+    let figures = compare(&Linked, CALLS, 11).unwrap();
+    assert!(figures.calls() >= CALLS);
+}
+
+type After = fn(Ask, &mut [u64], &mut [u64], &mut [u64]);
+
+/// The linked library with something changed behind its back after each call.
+struct Wrong {
+    after: After,
+}
+
+impl Library for Wrong {
+    fn setup(&self, rec: &mut [u64], words: &mut [u64], out: &mut [u64]) -> u64 {
+        Linked.setup(rec, words, out)
+    }
+
+    fn ask(&self, ask: Ask, rec: &mut [u64], words: &mut [u64], out: &mut [u64]) -> u64 {
+        let returned = Linked.ask(ask, rec, words, out);
+        // these tell of what is lent, and of no heap
+        if returned == 1 || returned == 2 {
+            return returned;
+        }
+        (self.after)(ask, rec, words, out);
+        out[0]
+    }
+
+    fn sound(&self, rec: &[u64], words: &[u64]) -> u64 {
+        Linked.sound(rec, words)
+    }
+}
+
+/// The report's steps and changes, once it was seen that there is one and that it says so much.
+fn found(lib: &dyn Library, says: &str) -> usize {
+    let report = compare(lib, CALLS, 1).unwrap_err();
+    println!("{report}");
+    assert!(report.starts_with("DIFFERENCE") && report.contains(says));
+    // a head line, the arena, the steps, what differs
+    report.lines().count() - 3
+}
+
+#[test]
+fn a_wrong_offset() {
+    let after: After = |ask, _, _, out| {
+        if let (Ask::Malloc(100..200), 0) = (ask, out[0]) {
+            out[1] += 16;
+        }
+    };
+    assert_eq!(found(&Wrong { after }, "the crate"), 1);
+}
+
+#[test]
+fn a_wrong_refusal() {
+    let after: After = |ask, _, _, out| {
+        if let (Ask::Memalign(_, 65_537..), 3) = (ask, out[0]) {
+            out[0] = 4;
+        }
+    };
+    assert_eq!(found(&Wrong { after }, "document 01 refusal 3"), 1);
+}
+
+#[test]
+fn a_refusal_that_writes() {
+    let after: After = |_, _, words, out| {
+        if out[0] == 5 && words.len() > 16 {
+            // behind the top's head, where no rule looks
+            words[words.len() - 1] += 1;
+        }
+    };
+    assert_eq!(found(&Wrong { after }, "changed"), 1);
+}
+
+#[test]
+fn a_lost_word_in_a_move() {
+    let after: After = |ask, _, words, out| {
+        if let (Ask::Realloc(off, _), 0) = (ask, out[0]) {
+            if out[1] != off {
+                words[out[1] as usize / 8 + 2] = 77;
+            }
+        }
+    };
+    // two blocks, so that the first can't grow in its place, and the move
+    let steps = found(&Wrong { after }, "ours 77");
+    assert!(steps <= 4);
+}
+
+#[test]
+fn a_wrong_child() {
+    let after: After = |_, rec, words, _| {
+        for root in rec[40..].iter().filter(|r| **r != NONE) {
+            let at = *root as usize / 8;
+            words.swap(at + 4, at + 5);
+        }
+    };
+    let steps = found(&Wrong { after }, "word");
+    assert!(steps <= 12);
+}
+
+#[test]
+fn a_wrong_head() {
+    let after: After = |ask, rec, words, out| {
+        if let (Ask::Free(_), 0, 64..) = (ask, out[0], rec[5]) {
+            words[rec[4] as usize / 8 + 1] ^= 1;
+        }
+    };
+    let steps = found(&Wrong { after }, "word");
+    assert!(steps <= 3);
+}
+
+/// A check that overlooks something.
+struct Blind;
+
+impl Library for Blind {
+    fn setup(&self, rec: &mut [u64], words: &mut [u64], out: &mut [u64]) -> u64 {
+        Linked.setup(rec, words, out)
+    }
+
+    fn ask(&self, ask: Ask, rec: &mut [u64], words: &mut [u64], out: &mut [u64]) -> u64 {
+        Linked.ask(ask, rec, words, out)
+    }
+
+    fn sound(&self, rec: &[u64], words: &[u64]) -> u64 {
+        // the spare chunk's size is taken to be true
+        let mut rec = rec.to_vec();
+        if rec
+            .get(2)
+            .is_some_and(|dv| *dv != NONE && dv / 8 + 1 < words.len() as u64)
+        {
+            rec[3] = words[rec[2] as usize / 8 + 1] & !7;
+        }
+        Linked.sound(&rec, words)
+    }
+}
+
+#[test]
+fn a_blind_check() {
+    let lines = found(&Blind, "the check says 0, the reading 2");
+    assert!(lines <= 8);
+}
