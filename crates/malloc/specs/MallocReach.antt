@@ -236,7 +236,7 @@ module _ (e : Edition) (r w : List ℕ) (h : Heap) (n : Held e r w h []) (nb : �
 
 -- ---- malloc, whole
 
--- "governed neither before nor after"
+-- the word i is governed neither before nor after
 pub malloc-reaches : (e : Edition) (r w : List ℕ) (h : Heap) → Held e r w h [] → (nb : ℕ) → nb % 2 ≡ 0 → 4 ≤ nb → W e * nb < huge
     → (i : ℕ) → (Governed h i → ⊥) → (Governed (leftBy h (rule.malloc e h nb)) i → ⊥) → getD (mallocB e r w (enc e nb) .words) i 0 ≡ getD w i 0
 malloc-reaches e r w h n nb v l hi i before after = whole-reaches e r w h n nb v l i before hi after

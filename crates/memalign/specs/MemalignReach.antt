@@ -126,7 +126,7 @@ trim-reaches e r w h n p s k nb st v more fit vn l i before led after = ⊎-elim
 
 -- ---- memalign, whole
 
--- "governed in none of them"
+-- the word i is governed in none of these heaps
 pub memalign-reaches : (e : Edition) (r w : List ℕ) (h : Heap) → Held e r w h [] → (al m nb : ℕ) → al ≡ 2 * m → 4 ≤ al → al ≤ 1024 → nb % 2 ≡ 0 → 4 ≤ nb → W e * (nb + al + 4) < huge
     → (i : ℕ) → (GovernedIn (memalignVia e h al nb) i → ⊥) → getD (memalignB e r w (enc e al) (enc e nb) .words) i 0 ≡ getD w i 0
 unfolding memalignB alignedB

@@ -121,7 +121,7 @@ module _ (e : Edition) (r w : List ℕ) (h : Heap) (n : Held e r w h []) (p t nb
           (malloc-grants e h nb (heads-tidy e w h (n .near .heads)) v l (malloc e h nb) (malloc-source e (state (decode r) w) h (n .near) nb v l hi))
           (malloc-reaches e r w h n nb v l hi i (λ u. via (inl u))) (λ u. via (inr u)) out)
 
--- "governed in none of the heaps, and not copied into"
+-- the word i is governed in none of these heaps, and not copied into
 pub realloc-reaches : (e : Edition) (r w : List ℕ) (h : Heap) → Held e r w h [] → (p t nb : ℕ) → Starts 0 (h .chunks) p (used t) → nb % 2 ≡ 0 → 4 ≤ nb → W e * nb < huge
     → (i : ℕ) → (GovernedIn (reallocVia e h p nb) i → ⊥) → (CopiedTo (realloc e h p nb) p t i → ⊥) → getD (reallocB e r w (enc e p) (enc e nb) .words) i 0 ≡ getD w i 0
 realloc-reaches e r w h n p t nb st v l hi i via out =

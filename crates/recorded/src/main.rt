@@ -1,4 +1,4 @@
-// Replays the crate's recorded answers, read from standard input, on the core; says how many calls there were and how many answers differ.
+// Replays the crate's recorded answers, read from standard input, on the calls; says how many calls there were and how many answers differ.
 // What the lines mean stands at the top of the record.
 mod look;
 mod play;

@@ -1,7 +1,11 @@
-// One line of the record: a call on the core, or a look at the heap, held against the crate's numbers.
+// One line of the record: a call, or a look at the heap, held against the crate's numbers.
 use crate::look::chunks_below;
 use crate::look::heap_sum;
 use crate::look::owned_sum;
+use arena::answers::Answer;
+use arena::answers::Reason;
+use arena::control::image_of;
+use arena::on_image;
 use chunk::access::BlockOff;
 use chunk::access::ChunkOff;
 use chunk::access::NONE;
@@ -9,21 +13,10 @@ use chunk::access::difference;
 use chunk::access::from_mem;
 use chunk::access::put;
 use chunk::access::sum;
-use chunk::access::to_mem;
-use chunk::heads::set_top_head;
 use chunk::heads::size;
 use chunk::image::DV;
 use chunk::image::DVSIZE;
 use chunk::image::TOPSIZE;
-use chunk::image::no_dv;
-use chunk::image::set_smallbin;
-use chunk::image::set_top;
-use chunk::image::set_treebin;
-use free::free_chunk;
-use index::sizes::request2size;
-use malloc::malloc_chunk;
-use memalign::memalign_chunk;
-use realloc::realloc_chunk;
 
 // The tally: the arena's words, the call's number in its history, and the counts.
 const WORDS: usize = 0;
@@ -46,24 +39,16 @@ fn note(t: &mut [u64; 8], same: bool) {
     }
 }
 
-fn empty_bins(r: &mut [u64; 72]) {
-    for i in 0..32 {
-        set_smallbin(r, i, ChunkOff(NONE));
-        set_treebin(r, i, ChunkOff(NONE));
+fn copy(r: &mut [u64; 72], image: [u64; 72]) {
+    for i in 0..72 {
+        r[i] = image[i];
     }
 }
 
-fn set_up(r: &mut [u64; 72], w: &mut [u64], length: u64) {
-    r[0] = 0;
-    r[1] = 0;
-    r[6] = length;
-    r[7] = 0;
-    empty_bins(r);
-    no_dv(r);
-    let n = difference(length, 80);
-    set_top(r, ChunkOff(0), n);
-    set_top_head(w, ChunkOff(0), n);
-    put(w, ChunkOff(n), 1, 80);
+fn set_up(r: &mut [u64; 72], w: &mut [u64]) {
+    let x = arena::setup(w);
+    let c = x.control;
+    copy(r, image_of(c));
 }
 
 // Word k of the block becomes call * 8192 + k, from word held on.
@@ -79,42 +64,50 @@ fn mark(w: &mut [u64], c: ChunkOff, held: u64, call: u64) {
     }
 }
 
-fn granted(w: &mut [u64], t: &mut [u64; 8], f: &[u64; 10], c: ChunkOff, held: u64) {
-    if c.0 == NONE {
-        t[REFUSALS] = sum(t[REFUSALS], 1);
-        note(t, f[3] == 6);
-        return;
-    }
+fn granted(w: &mut [u64], t: &mut [u64; 8], f: &[u64; 10], b: BlockOff, held: u64) {
     t[GRANTS] = sum(t[GRANTS], 1);
-    note(t, f[3] == 0 && f[4] == to_mem(c).0);
-    mark(w, c, held, t[CALL]);
+    note(t, f[3] == 0 && f[4] == b.0);
+    mark(w, from_mem(b), held, t[CALL]);
+}
+
+fn refused(t: &mut [u64; 8], f: &[u64; 10], n: u64) {
+    t[REFUSALS] = sum(t[REFUSALS], 1);
+    note(t, f[3] == n);
+}
+
+// The refusals that the crate has too; no other may be met.
+fn number(why: Reason) -> u64 {
+    match why {
+        Reason::TooMany => 4,
+        Reason::NoRoom => 6,
+        _ => 9,
+    }
+}
+
+fn answered(w: &mut [u64], t: &mut [u64; 8], f: &[u64; 10], a: Answer, held: u64) {
+    match a {
+        Answer::Granted(b) => granted(w, t, f, b, held),
+        Answer::Done => note(t, f[3] == 0),
+        Answer::Bytes(_) => note(t, false),
+        Answer::Refused(why) => refused(t, f, number(why)),
+    }
 }
 
 fn call(f: &[u64; 10], r: &mut [u64; 72], w: &mut [u64], t: &mut [u64; 8]) {
+    let b = BlockOff(f[1]);
     if f[0] == 1 {
-        let c = malloc_chunk(r, w, request2size(f[1]));
-        granted(w, t, f, c, 0);
+        let a = on_image::malloc(r, w, f[1]);
+        answered(w, t, f, a, 0);
     } else if f[0] == 2 {
-        free_chunk(r, w, from_mem(BlockOff(f[1])));
+        let a = on_image::free(r, w, b);
+        answered(w, t, f, a, 0);
     } else if f[0] == 3 {
-        let c = from_mem(BlockOff(f[1]));
-        let held = difference(size(w, c) / 8, 1) % 65536;
-        let d = realloc_chunk(r, w, c, request2size(f[2]));
-        granted(w, t, f, d, held);
+        let held = difference(size(w, from_mem(b)) / 8, 1) % 65536;
+        let a = on_image::realloc(r, w, b, f[2]);
+        answered(w, t, f, a, held);
     } else {
-        let c = memalign_chunk(r, w, f[1], request2size(f[2]));
-        granted(w, t, f, c, 0);
-    }
-}
-
-// More bytes than the arena has: 4.
-fn too_big(f: &[u64; 10], length: u64) -> bool {
-    if f[0] == 1 {
-        f[1] > length
-    } else if f[0] == 2 {
-        false
-    } else {
-        f[2] > length
+        let a = on_image::memalign(r, w, f[1], f[2]);
+        answered(w, t, f, a, 0);
     }
 }
 
@@ -136,17 +129,12 @@ fn look(f: &[u64; 10], r: &[u64; 72], w: &[u64], t: &mut [u64; 8]) {
 fn ask(f: &[u64; 10], r: &mut [u64; 72], w: &mut [u64], t: &mut [u64; 8]) {
     t[CALL] = sum(t[CALL], 1);
     t[CALLS] = sum(t[CALLS], 1);
-    if too_big(f, r[6]) {
-        t[REFUSALS] = sum(t[REFUSALS], 1);
-        note(t, f[3] == 4);
-    } else {
-        call(f, r, w, t);
-    }
+    call(f, r, w, t);
 }
 
 fn step(f: &[u64; 10], r: &mut [u64; 72], w: &mut [u64], t: &mut [u64; 8]) {
     if f[0] == 0 {
-        set_up(r, w, f[1] % 65536 * 8);
+        set_up(r, w);
         note(t, f[5] == r[TOPSIZE]);
     } else if f[0] == 5 {
         look(f, r, w, t);
