@@ -15,3 +15,4 @@ pub mod Owners
 pub mod Kept
 pub mod InUse
 pub mod Lending
+pub mod Shapes

@@ -23,7 +23,7 @@ use Rattle.holds.specs.Holds.{SmallAt, TrieAt, SmallBins, TreeBins, headLink}
 use Rattle.chunk.specs.Bytes.{Kind, small, tree, linkOf, linkAt}
 use Rattle.chunk.specs.Image.{decode, links, filled, get-link, get-map, part}
 use Rattle.marks.specs.Marks.{Checked, no, noMarks, turns}
-use Rattle.bins.specs.BinsBytes.{bitOk, listOk, smallBinOk, allBins, smallBinsOk, treeOk, treeBinOk, treeBinsOk}
+use Rattle.binned.specs.BinsBytes.{bitOk, listOk, smallBinOk, allBins, smallBinsOk, treeOk, treeBinOk, treeBinsOk}
 use Rattle.decides.specs.MarksLaws.{inSet, Sized, sized-none, none-in, fewer}
 use Rattle.decides.specs.Took.{Took, then-yes, took-then, if-yes, took-if}
 use Rattle.decides.specs.ListLaws.{list-yes, list-there}

@@ -16,7 +16,7 @@ use Rattle.lists.specs.Links.{newest, Links, Headed}
 use Rattle.chunk.specs.Bytes.{word}
 use Rattle.marks.specs.Marks.{Checked, no, yes, andThen, takeMark}
 use Rattle.tiles.specs.TilesBytes.{headIs}
-use Rattle.bins.specs.BinsBytes.{linkedOk, listOk}
+use Rattle.binned.specs.BinsBytes.{linkedOk, listOk}
 use Rattle.decides.specs.MarksLaws.{inSet, Sized, and-left, and-right, and-both}
 use Rattle.decides.specs.Took.{Took, then-yes, took-then, if-yes, took-if, took-else, took-yes, took-there, word-at}
 

@@ -17,7 +17,7 @@ use Rattle.tries.specs.TreeAt.{Chain, Member, Knot, Others}
 use Rattle.chunk.specs.Bytes.{word}
 use Rattle.marks.specs.Marks.{Checked, checked, no, andThen, takeMark}
 use Rattle.tiles.specs.TilesBytes.{headIs}
-use Rattle.bins.specs.BinsBytes.{childless, memberOk, ringOk}
+use Rattle.binned.specs.BinsBytes.{childless, memberOk, ringOk}
 use Rattle.decides.specs.MarksLaws.{inSet, Sized, and-left, and-right, and-both}
 use Rattle.decides.specs.Took.{Took, then-yes, took-then, if-yes, took-if, took-else, took-yes, took-there, word-at}
 

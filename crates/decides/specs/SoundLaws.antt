@@ -24,7 +24,7 @@ use Rattle.chunk.specs.Bytes.{small, tree}
 use Rattle.chunk.specs.Image.{decode, decode-is, get-map}
 use Rattle.marks.specs.Marks.{Checked, checked, andThen, noMarks, isEmpty, turns}
 use Rattle.tiles.specs.TilesBytes.{topOk, walkHeads}
-use Rattle.bins.specs.BinsBytes.{dvOk, smallBinsOk, treeBinsOk}
+use Rattle.binned.specs.BinsBytes.{dvOk, smallBinsOk, treeBinsOk}
 use Rattle.sound.specs.SoundBytes.{countOk, binsOk, recordOk, chunksOk, soundB}
 use Rattle.decides.specs.MarksLaws.{inSet, Sized, and-left, and-right, and-both, sized-none, none-in, empty-in, all-empty}
 use Rattle.decides.specs.Took.{then-yes, took-then}

@@ -20,7 +20,7 @@ use Rattle.chunk.specs.Bytes.{word}
 use Rattle.chunk.specs.Plain.{word-plain}
 use Rattle.marks.specs.Marks.{Checked, checked, takeMark, andThen}
 use Rattle.tiles.specs.TilesBytes.{headIs}
-use Rattle.bins.specs.BinsBytes.{dvOk}
+use Rattle.binned.specs.BinsBytes.{dvOk}
 use Rattle.decides.specs.MarksLaws.{inSet, Sized}
 use Rattle.decides.specs.Took.{Took, then-yes, took-then, took-if, took-else, took-yes, took-there}
 

@@ -19,7 +19,7 @@ use Rattle.tries.specs.TreeAt.{link, RingAt, TreeAt}
 use Rattle.tries.specs.Shape.{Shaped, Between, Fresh}
 use Rattle.chunk.specs.Bytes.{word}
 use Rattle.marks.specs.Marks.{lacksMark, setMark, Checked, checked, no, yes, andThen, takeMark, turns}
-use Rattle.bins.specs.BinsBytes.{childless, ringOk, nodeSize, sizeFits, nodeFits, nodeOk, treeOk}
+use Rattle.binned.specs.BinsBytes.{childless, ringOk, nodeSize, sizeFits, nodeFits, nodeOk, treeOk}
 use Rattle.decides.specs.MarksLaws.{inSet, Sized, in-most, and-left, and-right, and-both, lacks-yes, lacks-there, sized-set, set-there, fewer}
 use Rattle.decides.specs.Took.{Took, then-yes, took-then, if-yes, took-if, took-else, took-yes, took-there, word-at}
 use Rattle.decides.specs.RingLaws.{ring-yes, ring-there}

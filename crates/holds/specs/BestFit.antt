@@ -39,6 +39,7 @@ pub record Fits (e : Edition) (h : Heap) (i nb : ℕ) (c : Cand) : Type 0 where
   pub found : ltb (c .size) huge ≡ true
   pub large : nb ≤ c .size
   pub tall : 256 ≤ W e * c .size
+  pub there : (j : ℕ) × (j < 32) × Has (c .at) (c .size) (getD (h .tries) j leaf)
   pub starts : Starts 0 (h .chunks) (c .at) (free (c .size))
   pub not-dv : inDv (h .dv) (c .at) ≡ 0
   pub least : (j : ℕ) → i ≤ j → j < 32 → All (λ s. nb ≤ s → c .size ≤ s) (getD (h .tries) j leaf)
@@ -79,24 +80,28 @@ module _ (e : Edition) (t : State) (h : Heap) (n : Says e t h []) where
         found = lt-ltb (c .size) huge (below (c .size) (size-bound e (t .ctl) (t .words) h [] n (c .at) (c .size) st));
         large = fit;
         tall = omega (arith, ap (λ s. W e * s) q, trie-least e i (m .0) (m .2) .0);
+        there = (i, l, u);
         starts = st;
         not-dv = omega (arith, once e (t .ctl) (t .words) h [] n (c .at), a .0, sum-at (count (c .at)) leaf (h .tries) i (omega (arith, n .tries .marks .count)));
         least = ls;
       }
 
-  -- the nodes of a trie are below `huge`
-  trie-below : (i : ℕ) → i < 32 → All (λ s. s < huge) (getD (h .tries) i leaf)
-  trie-below i l = go (getD (h .tries) i leaf) (λ x s u. let a = has-at e (fld (t .words)) i (rootMark e) x s (getD (h .tries) i leaf) u (n .tries .at i l .tree) in bounded x s a)
+  -- the nodes of a trie are below `huge`, in bytes and so in words
+  pub trie-bytes : (i : ℕ) → i < 32 → All (λ s. W e * s < huge) (getD (h .tries) i leaf)
+  trie-bytes i l = go (getD (h .tries) i leaf) (λ x s u. let a = has-at e (fld (t .words)) i (rootMark e) x s (getD (h .tries) i leaf) u (n .tries .at i l .tree) in bounded x s a)
     where
-      bounded : (x s : ℕ) → (1 ≤ count x (getD (h .tries) i leaf)) × (fld (t .words) x 1 ≡ head e s) → s < huge
+      bounded : (x s : ℕ) → (1 ≤ count x (getD (h .tries) i leaf)) × (fld (t .words) x 1 ≡ head e s) → W e * s < huge
       bounded x s a =
           let m = trie-member e (t .ctl) (t .words) h [] n i l x (a .0) in
           let q : m .0 ≡ s = enc-inj e (m .0) s (omega (arith, free-head e (t .ctl) (t .words) h [] n x (m .0) (m .1) .0, a .1)) in
-          below s (subst (λ z. W e * z < huge) q (size-bound e (t .ctl) (t .words) h [] n x (m .0) (m .1)))
+          subst (λ z. W e * z < huge) q (size-bound e (t .ctl) (t .words) h [] n x (m .0) (m .1))
 
-      go : (u : Tree) → ((x s : ℕ) → Has x s u → s < huge) → All (λ s. s < huge) u
+      go : (u : Tree) → ((x s : ℕ) → Has x s u → W e * s < huge) → All (λ s. W e * s < huge) u
       go leaf f = tt
       go (node p ps s a b) f = (f p s (inl (refl, refl)), go a (λ x z u. f x z (inr (inl u))), go b (λ x z u. f x z (inr (inr u))))
+
+  trie-below : (i : ℕ) → i < 32 → All (λ s. s < huge) (getD (h .tries) i leaf)
+  trie-below i l = all-map (λ s u. below s u) (getD (h .tries) i leaf) (trie-bytes i l)
 
   -- the first filled trie from i on: all fit, if the need is below its sizes
   pub best-from : (i nb : ℕ) → i ≤ 32 → ((j : ℕ) → i ≤ j → j < 32 → nb ≤ trieLow e j) → Fits e h i nb (bestFrom h i nb) ⊎ Misses e h i nb (bestFrom h i nb)
@@ -182,6 +187,7 @@ module _ (e : Edition) (t : State) (h : Heap) (n : Says e t h []) where
             found = f .found;
             large = f .large;
             tall = f .tall;
+            there = f .there;
             starts = f .starts;
             not-dv = f .not-dv;
             least = λ j _ k. ⊎-elim (λ u. f .least j u k)

@@ -21,3 +21,9 @@ pub mod BestFit
 pub mod SearchWords
 pub mod MallocSource
 pub mod NoRoom
+pub mod TooLarge
+pub mod Rings
+pub mod Alike
+pub mod ShapeFree
+pub mod AlikeFree
+pub mod AlikeRealloc

@@ -20,6 +20,7 @@ use Rattle.rules.specs.Calls.{Call, Malloc, Free, Realloc, Memalign, Usable, An
 use Rattle.holds.specs.Holds.{Control, Holds, Sound, freshControl}
 use Rattle.holds.specs.Governed.{Governed, GovernedIn}
 use Rattle.holds.specs.NoRoom.{Tight}
+use Rattle.holds.specs.Alike.{Alike}
 use Rattle.calls.specs.CallBytes.{refusal}
 use Rattle.calls.specs.Record.{emptyControl}
 use Rattle.calls.specs.RecordLaws.{Fits}
@@ -128,6 +129,9 @@ pub record TheRules : Type 0 where
   pub reaches : (c : Control) (w : List ℕ) (h : Heap) (k : Call) (i : ℕ) → Holds wide c w h → (GovernedIn (callVia wide h k) i → ⊥) → (Copies wide h k i → ⊥) → getD (callA wide c w k .words) i 0 ≡ getD w i 0
   -- Usable is head size - 8: the chunk has s words.
   pub usable : (c : Control) (w : List ℕ) (h : Heap) (off s : ℕ) → Holds wide c w h → liveSize wide 0 (h .chunks) off ≡ some s → callA wide c w (Usable off) .answer ≡ bytes (8 * s - 8)
+  -- The granted chunk is a function of the sizes, their ages and the spare chunk alone: pairs whose tries have other shapes get the same answers, whole histories long.
+  pub shape-free : (c d : Control) (w v : List ℕ) (h g : Heap) → Holds wide c w h → Holds wide d v g → length w ≡ length v → Alike h g → (es : List Event)
+      → answers wide (box c w) es ≡ answers wide (box d v) es
 
 -- DEMAND 3. From one granted set-up, after any calls and owners' writes.
 pub record Histories : Type 0 where

@@ -30,6 +30,7 @@ use Rattle.calls.specs.RecordLaws.{held-image}
 use Rattle.calls.specs.ByValue.{callA}
 use Rattle.calls.specs.CallObeys.{even, least, low}
 use Rattle.calls.specs.Histories.{box, let-through, calls-held}
+use Rattle.calls.specs.Shapes.{shapes}
 use Rattle.calls.specs.CallReach.{callVia, Copies, call-reaches}
 use Rattle.promises.specs.Promises.{TheRules, ownPlace}
 use Rattle.promises.specs.RowLaws.{place-is, found, own-is}
@@ -106,4 +107,5 @@ the-rules =
       own-place-first = λ c w h g off x s n l q own. own-place-first c w h n g off x s l q own;
       reaches = λ c w h k i n f g. reaches c w h n k i f g;
       usable = λ c w h off s n q. usable c w h n off s q;
+      shape-free = λ c d w v h g n m l a es. shapes wide (box c w) (box d v) h g n m l a es;
     }

@@ -12,7 +12,7 @@ use Rattle.words.specs.Edition.{wide}
 use Rattle.chunk.specs.Bytes.{sizeB, cinuseB}
 use Rattle.marks.specs.Marks.{markWords, checked, Checked, andThen, noMarks, isEmpty, turns, answer}
 use Rattle.tiles.specs.TilesBytes.{topOk, walkHeads}
-use Rattle.bins.specs.BinsBytes.{dvOk, smallBinsOk, treeBinsOk}
+use Rattle.binned.specs.BinsBytes.{dvOk, smallBinsOk, treeBinsOk}
 use Rattle.sound.specs.SoundBytes.{countOk, binsOk, recordOk, chunksOk, soundB, startsAt, liveB, usableB}
 
 -- ---- the word count and the record

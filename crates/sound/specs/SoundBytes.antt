@@ -12,7 +12,7 @@ use Rattle.words.specs.Edition.{Edition, W}
 use Rattle.chunk.specs.Bytes.{sizeB, cinuseB}
 use Rattle.marks.specs.Marks.{turns, Checked, checked, andThen, noMarks, isEmpty}
 use Rattle.tiles.specs.TilesBytes.{topOk, walkHeads}
-use Rattle.bins.specs.BinsBytes.{dvOk, smallBinsOk, treeBinsOk}
+use Rattle.binned.specs.BinsBytes.{dvOk, smallBinsOk, treeBinsOk}
 
 -- "an even number from 16 to 8,192"
 unfoldable pub countOk : ℕ → Bool

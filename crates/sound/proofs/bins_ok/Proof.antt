@@ -5,9 +5,9 @@ use Rattle.sound.proofs.bins_ok.Tie as tie
 use Rattle.sound.proofs.bins_ok.Reads as reads
 use Rattle.sound.proofs.bins_ok.Lts as lts
 use Rattle.marks.proofs.is_empty.Reads as is-empty-reads
-use Rattle.bins.proofs.small.dv_ok.Reads as dv-ok-reads
-use Rattle.bins.proofs.small.small_bins_ok.Reads as small-bins-ok-reads
-use Rattle.bins.proofs.trees.tree_bins_ok.Reads as tree-bins-ok-reads
+use Rattle.binned.proofs.small.dv_ok.Reads as dv-ok-reads
+use Rattle.binned.proofs.small.small_bins_ok.Reads as small-bins-ok-reads
+use Rattle.binned.proofs.trees.tree_bins_ok.Reads as tree-bins-ok-reads
 
 dv-ok-requires : tie.Need-dv-ok-requires
 dv-ok-requires c κs = search needs
