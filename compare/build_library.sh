@@ -100,7 +100,7 @@ unproved() {
     keeping_toolchain "$work/toolchain"
     early=$root/compare/early
     mkdir -p "$work/early/src"
-    cp "$early/main.rt" "$work/early/src/"
+    cp "$early/main.txt" "$work/early/src/main.rt"
     copy_libraries "$work/crates"
     set -- --lib "std=$kit/libs/std/src/lib.rt"
     for lib in "$work"/crates/*/src/lib.rt; do
