@@ -8,6 +8,7 @@ use crate::play::CALLS;
 use crate::play::DIFFER;
 use crate::play::GRANTS;
 use crate::play::LOOKS;
+use crate::play::NOT_READ;
 use crate::play::REFUSALS;
 use crate::play::play;
 use crate::text::end_line;
@@ -33,7 +34,7 @@ fn play_bytes(
         if read_byte(line, buf[i]) {
             play(line, r, w, t);
         }
-        end_line(line, buf[i]);
+        end_line(line, buf[i], t);
         i += 1;
     }
 }
@@ -51,6 +52,8 @@ fn play_all(r: &mut [u64; 72], w: &mut [u64], t: &mut [u64; 8]) {
             rest -= 1;
         }
     }
+    // a last line without an end
+    play_bytes(b"\n", &mut line, r, w, t);
 }
 
 fn main() {
@@ -62,5 +65,6 @@ fn main() {
     say(b"grants ", t[GRANTS]);
     say(b"refusals ", t[REFUSALS]);
     say(b"looks at the heap ", t[LOOKS]);
+    say(b"lines not understood ", t[NOT_READ]);
     say(b"differ ", t[DIFFER]);
 }

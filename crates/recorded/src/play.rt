@@ -33,6 +33,8 @@ pub const LOOKS: usize = 5;
 
 pub const DIFFER: usize = 6;
 
+pub const NOT_READ: usize = 7;
+
 fn note(t: &mut [u64; 8], same: bool) {
     if !same {
         t[DIFFER] = sum(t[DIFFER], 1);

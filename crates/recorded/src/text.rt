@@ -1,11 +1,21 @@
-// Lines of eight decimal numbers, a byte at a time, one space between two. A line that has a # says nothing.
+// Lines of eight decimal numbers, a byte at a time, one space between two. A line that has a # says nothing, nor does an empty one.
 // Words 0 to 7 are the line's numbers.
+use crate::play::NOT_READ;
 use chunk::access::sum;
 
 // Which number is being read.
 const AT: usize = 8;
 
-const COMMENT: usize = 9;
+// What the line is so far.
+const LINE: usize = 9;
+
+const EMPTY: u64 = 0;
+
+const COMMENT: u64 = 1;
+
+const NUMBERS: u64 = 2;
+
+const ODD: u64 = 3;
 
 // Number k is being read, and is 0 so far.
 fn begin(l: &mut [u64; 10], k: u64) {
@@ -23,25 +33,56 @@ fn read_digit(l: &mut [u64; 10], b: u8) {
     }
 }
 
+// A byte that is none of a line of numbers.
+fn odd_byte(l: &mut [u64; 10]) {
+    if l[LINE] != COMMENT {
+        l[LINE] = ODD;
+    }
+}
+
+fn number_byte(l: &mut [u64; 10]) {
+    if l[LINE] == EMPTY {
+        l[LINE] = NUMBERS;
+    }
+}
+
 // Where a line of eight numbers ends with this byte, the next line's numbers are not begun: that is `end_line`'s.
 pub fn read_byte(l: &mut [u64; 10], b: u8) -> bool {
     if b == b'\n' {
-        return l[COMMENT] == 0 && l[AT] == 7;
+        return l[LINE] == NUMBERS && l[AT] == 7;
     }
     if b == b'#' {
-        l[COMMENT] = 1;
+        l[LINE] = COMMENT;
     } else if b == b' ' {
+        number_byte(l);
         let k = sum(l[AT], 1);
         begin(l, k);
+    } else if b < b'0' {
+        odd_byte(l);
+    } else if b > b'9' {
+        odd_byte(l);
     } else {
+        number_byte(l);
         read_digit(l, b);
     }
     false
 }
 
-pub fn end_line(l: &mut [u64; 10], b: u8) {
+// The line that ends is neither eight numbers nor a comment nor empty.
+fn is_odd(l: &[u64; 10]) -> bool {
+    if l[LINE] == ODD {
+        return true;
+    }
+    l[LINE] == NUMBERS && l[AT] != 7
+}
+
+// Lines that were not understood are counted, so that nothing is lost unsaid.
+pub fn end_line(l: &mut [u64; 10], b: u8, t: &mut [u64; 8]) {
     if b == b'\n' {
-        l[COMMENT] = 0;
+        if is_odd(l) {
+            t[NOT_READ] = sum(t[NOT_READ], 1);
+        }
+        l[LINE] = EMPTY;
         begin(l, 0);
     }
 }

@@ -5,10 +5,10 @@ use Rattle.recorded.proofs.play_all.Statement.{statement}
 use Rattle.recorded.proofs.play_all.Tie as tie
 
 abbrev Inv-loop : tie.InvT-loop
-Inv-loop r₀ w₀ t₀ line₀ buf₀ rest₀ r w t line buf rest = (length buf ≡ 4096) × (length w ≡ length w₀)
+Inv-loop r₀ w₀ t₀ line₀ buf₀ rest₀ t8 r w t line buf rest = (length buf ≡ 4096) × (length w ≡ length w₀)
 
 abbrev μ-loop : tie.MeasureT-loop
-μ-loop r₀ w₀ t₀ line₀ buf₀ rest₀ r w t line buf rest = rest
+μ-loop r₀ w₀ t₀ line₀ buf₀ rest₀ t8 r w t line buf rest = rest
 
 buffer-requires : tie.Need-buffer-requires Inv-loop μ-loop
 buffer-requires c κs = search needs
@@ -49,6 +49,12 @@ loop-less-2 c = search needs
 loop-again-2 : tie.Need-loop-again-2 Inv-loop μ-loop
 loop-again-2 c = search needs
 
+slice-aggregate-play-bytes : tie.Need-slice-aggregate-play-bytes Inv-loop μ-loop
+slice-aggregate-play-bytes c = search needs
+
+play-bytes-requires-2 : tie.Need-play-bytes-requires-2 Inv-loop μ-loop
+play-bytes-requires-2 c κs = search needs
+
 same-length : tie.Need-same-length Inv-loop μ-loop
 same-length c = search needs
 
@@ -74,5 +80,7 @@ play-all-spec =
     sub-rest
     loop-less-2
     loop-again-2
+    slice-aggregate-play-bytes
+    play-bytes-requires-2
     same-length
     returns)

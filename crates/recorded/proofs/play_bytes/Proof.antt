@@ -37,7 +37,7 @@ loop-less : tie.Need-loop-less Inv-loop μ-loop
 loop-less c = search needs
 
 loop-again : tie.Need-loop-again Inv-loop μ-loop
-loop-again c = ⊎-elim (λ x. search needs) (λ x. search needs) (c .before .before .before .if1 .came)
+loop-again c = ⊎-elim (λ x. search needs) (λ x. search needs) (c .before .before .before .before .if1 .came)
 
 same-length : tie.Need-same-length Inv-loop μ-loop
 same-length c = search needs
