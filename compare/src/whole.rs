@@ -13,7 +13,7 @@ struct Base<'a> {
 /// One of the changes; none where the state has nothing for it.
 pub fn change(rng: &mut Rng, state: &Ours, places: &Places) -> Vec<Change> {
     let base = Base { state, places };
-    match rng.below(13) {
+    match rng.below(14) {
         0 => base.children_change_sides(rng),
         1 => base.bin_moves(rng),
         2 => base.spare_forgotten(),
@@ -25,6 +25,7 @@ pub fn change(rng: &mut Rng, state: &Ours, places: &Places) -> Vec<Change> {
         9 => base.border_moves(rng),
         10 => base.top_ends_early(rng),
         11 => base.equal_size_below(rng),
+        12 => base.spare_told_off_its_place(rng),
         _ => base.small_in_a_tree(rng),
     }
     .unwrap_or_default()
@@ -76,6 +77,17 @@ impl Base<'_> {
 
     fn spare_forgotten(&self) -> Option<Vec<Change>> {
         Some(vec![Change::Record(2, NONE), Change::Record(3, 0)])
+    }
+
+    /// The spare chunk's offset a little too high, with a head where one is then looked for.
+    fn spare_told_off_its_place(&self, rng: &mut Rng) -> Option<Vec<Change>> {
+        let spare = Some(self.state.record[2]).filter(|dv| *dv != NONE)?;
+        let by = rng.pick(&[4, 8, 8, 8]);
+        let head = self.size(spare) + 1;
+        Some(vec![
+            Change::Record(2, spare + by),
+            set(spare, 1 + by / 8, head),
+        ])
     }
 
     /// Another free chunk is the spare one as well as where it was.
