@@ -111,7 +111,7 @@ module _ (w : List ℕ) (a : allowedCount (length w) ≡ true) where
   pub held : (es : List Event) → HeldIn wide (then w es) (heap es)
   held es = goes es .held
 
-  count : (es : List Event) → length (then w es .words) ≡ length w
+  pub count : (es : List Event) → length (then w es .words) ≡ length w
   count es = goes es .count ∙ simp length-set refl
 
   pub in-use : (es : List Event) (off : ℕ) → ((n : ℕ) × LiveAt (then w es) off n) ↔ Ledger (λ o. ⊥) es (answers wide (setUpOn wide w) es) off
