@@ -67,26 +67,26 @@ mod c {
     }
 }
 
-/// A mutable slice as C takes it.
-macro_rules! lent {
-    ($s:ident) => {
-        ($s.as_mut_ptr(), $s.len())
-    };
+/// Hands the three parts to C, each as a pointer and a length, and then the call's numbers.
+macro_rules! call {
+    ($f:ident, $rec:ident, $arena:ident, $out:ident $(, $n:ident)*) => {{
+        let (r, rn) = ($rec.as_mut_ptr(), $rec.len());
+        let (a, an) = ($arena.as_mut_ptr(), $arena.len());
+        let (o, on) = ($out.as_mut_ptr(), $out.len());
+        unsafe { c::$f(r, rn, a, an, o, on $(, $n)*) }
+    }};
 }
 
 pub fn setup(rec: &mut [u64], arena: &mut [u64], out: &mut [u64]) -> u64 {
-    let ((r, rn), (a, an), (o, on)) = (lent!(rec), lent!(arena), lent!(out));
-    unsafe { c::nuka_setup(r, rn, a, an, o, on) }
+    call!(nuka_setup, rec, arena, out)
 }
 
 pub fn malloc(rec: &mut [u64], arena: &mut [u64], out: &mut [u64], bytes: u64) -> u64 {
-    let ((r, rn), (a, an), (o, on)) = (lent!(rec), lent!(arena), lent!(out));
-    unsafe { c::nuka_malloc(r, rn, a, an, o, on, bytes) }
+    call!(nuka_malloc, rec, arena, out, bytes)
 }
 
 pub fn free(rec: &mut [u64], arena: &mut [u64], out: &mut [u64], offset: u64) -> u64 {
-    let ((r, rn), (a, an), (o, on)) = (lent!(rec), lent!(arena), lent!(out));
-    unsafe { c::nuka_free(r, rn, a, an, o, on, offset) }
+    call!(nuka_free, rec, arena, out, offset)
 }
 
 pub fn realloc(
@@ -96,8 +96,7 @@ pub fn realloc(
     offset: u64,
     bytes: u64,
 ) -> u64 {
-    let ((r, rn), (a, an), (o, on)) = (lent!(rec), lent!(arena), lent!(out));
-    unsafe { c::nuka_realloc(r, rn, a, an, o, on, offset, bytes) }
+    call!(nuka_realloc, rec, arena, out, offset, bytes)
 }
 
 pub fn memalign(
@@ -107,14 +106,12 @@ pub fn memalign(
     alignment: u64,
     bytes: u64,
 ) -> u64 {
-    let ((r, rn), (a, an), (o, on)) = (lent!(rec), lent!(arena), lent!(out));
-    unsafe { c::nuka_memalign(r, rn, a, an, o, on, alignment, bytes) }
+    call!(nuka_memalign, rec, arena, out, alignment, bytes)
 }
 
 pub fn usable(rec: &[u64], arena: &[u64], out: &mut [u64], offset: u64) -> u64 {
-    let (o, on) = lent!(out);
-    let (r, a) = (rec.as_ptr(), arena.as_ptr());
-    unsafe { c::nuka_usable(r, rec.len(), a, arena.len(), o, on, offset) }
+    let (r, a, o) = (rec.as_ptr(), arena.as_ptr(), out.as_mut_ptr());
+    unsafe { c::nuka_usable(r, rec.len(), a, arena.len(), o, out.len(), offset) }
 }
 
 pub fn sound(rec: &[u64], arena: &[u64]) -> u64 {
