@@ -1,4 +1,7 @@
 // A look at the heap: how many chunks lie below the top, and two sums, over heads, feet and links, and over the owners' words.
+ghost use mathlib.Core.Path.{_≡_};
+ghost use Prim.Native.Nat.{_-_};
+ghost use Rattle.recorded.specs.Sums.{chunksBelow, addTo, addWords, addLinks, addChunk, addTop, addOwned, heapSum, ownedSum};
 use chunk::access::ChunkOff;
 use chunk::access::get;
 use chunk::access::plus_offset;
@@ -9,11 +12,18 @@ use chunk::image::DV;
 use chunk::image::TOP;
 use chunk::image::TOPSIZE;
 
-fn add(s: u64, x: u64) -> u64 {
+// The bound of every walk.
+const TURNS: u32 = 4096;
+
+fn add(s: u64, x: u64) -> u64
+    ensures { λ y. ⌜ y ≡ addTo s x ⌝ }
+{
     (s % 1000003 * 31 + x % 1000003) % 1000003
 }
 
-fn add_words(w: &[u64], c: ChunkOff, first: u64, last: u64, s: u64) -> u64 {
+fn add_words(w: &[u64], c: ChunkOff, first: u64, last: u64, s: u64) -> u64
+    ensures { λ x. ⌜ x ≡ addWords (now (w .entry)) (c .0) (last - first) first s ⌝ }
+{
     let mut all = s;
     for k in first..last {
         all = add(all, get(w, c, (k % 65536) as u32));
@@ -21,17 +31,21 @@ fn add_words(w: &[u64], c: ChunkOff, first: u64, last: u64, s: u64) -> u64 {
     all
 }
 
-fn add_links(r: &[u64; 72], w: &[u64], c: ChunkOff, n: u64, s: u64) -> u64 {
+fn add_links(r: &[u64; 72], w: &[u64], c: ChunkOff, n: u64, s: u64) -> u64
+    ensures { λ x. ⌜ x ≡ addLinks (now (r .entry)) (now (w .entry)) (c .0) n s ⌝ }
+{
     if c.0 == r[DV] {
-        s
-    } else if n < 256 {
-        add_words(w, c, 2, 4, s)
-    } else {
-        add_words(w, c, 2, 8, s)
+        return s;
     }
+    if n < 256 {
+        return add_words(w, c, 2, 4, s);
+    }
+    add_words(w, c, 2, 8, s)
 }
 
-fn add_chunk(r: &[u64; 72], w: &[u64], c: ChunkOff, n: u64, s: u64) -> u64 {
+fn add_chunk(r: &[u64; 72], w: &[u64], c: ChunkOff, n: u64, s: u64) -> u64
+    ensures { λ x. ⌜ x ≡ addChunk (now (r .entry)) (now (w .entry)) (c .0) n s ⌝ }
+{
     let head = add(s, get(w, c, 1));
     if cinuse(w, c) {
         return head;
@@ -40,49 +54,71 @@ fn add_chunk(r: &[u64; 72], w: &[u64], c: ChunkOff, n: u64, s: u64) -> u64 {
     add(links, get(w, plus_offset(c, n), 0))
 }
 
-pub fn chunks_below(r: &[u64; 72], w: &[u64]) -> u64 {
+pub fn chunks_below(r: &[u64; 72], w: &[u64]) -> u64
+    ensures { λ x. ⌜ x ≡ chunksBelow (now (r .entry)) (now (w .entry)) ⌝ }
+{
     let mut c = ChunkOff(0);
     let mut n: u64 = 0;
-    for _k in 0u32..4096 {
-        if c.0 != r[TOP] {
-            c = plus_offset(c, size(w, c));
-            n = sum(n, 1);
+    let mut left = TURNS;
+    while left > 0 {
+        if c.0 == r[TOP] {
+            return n;
         }
+        c = plus_offset(c, size(w, c));
+        n = sum(n, 1);
+        left -= 1;
     }
     n
 }
 
-pub fn heap_sum(r: &[u64; 72], w: &[u64]) -> u64 {
-    let mut c = ChunkOff(0);
-    let mut s: u64 = 0;
-    for _k in 0u32..4096 {
-        if c.0 != r[TOP] {
-            let n = size(w, c);
-            s = add_chunk(r, w, c, n, s);
-            c = plus_offset(c, n);
-        }
-    }
+fn add_top(r: &[u64; 72], w: &[u64], c: ChunkOff, s: u64) -> u64
+    ensures { λ x. ⌜ x ≡ addTop (now (r .entry)) (now (w .entry)) (c .0) s ⌝ }
+{
     let top = add(s, get(w, c, 1));
     add(top, get(w, plus_offset(c, r[TOPSIZE]), 1))
 }
 
-fn add_owned(w: &[u64], c: ChunkOff, n: u64, s: u64) -> u64 {
-    if cinuse(w, c) {
-        add_words(w, c, 2, n / 8 + 1, s)
-    } else {
-        s
-    }
-}
-
-pub fn owned_sum(r: &[u64; 72], w: &[u64]) -> u64 {
+pub fn heap_sum(r: &[u64; 72], w: &[u64]) -> u64
+    ensures { λ x. ⌜ x ≡ heapSum (now (r .entry)) (now (w .entry)) ⌝ }
+{
     let mut c = ChunkOff(0);
     let mut s: u64 = 0;
-    for _k in 0u32..4096 {
-        if c.0 != r[TOP] {
-            let n = size(w, c);
-            s = add_owned(w, c, n, s);
-            c = plus_offset(c, n);
+    let mut left = TURNS;
+    while left > 0 {
+        if c.0 == r[TOP] {
+            return add_top(r, w, c, s);
         }
+        let n = size(w, c);
+        s = add_chunk(r, w, c, n, s);
+        c = plus_offset(c, n);
+        left -= 1;
+    }
+    add_top(r, w, c, s)
+}
+
+fn add_owned(w: &[u64], c: ChunkOff, n: u64, s: u64) -> u64
+    ensures { λ x. ⌜ x ≡ addOwned (now (w .entry)) (c .0) n s ⌝ }
+{
+    if cinuse(w, c) {
+        return add_words(w, c, 2, n / 8 + 1, s);
+    }
+    s
+}
+
+pub fn owned_sum(r: &[u64; 72], w: &[u64]) -> u64
+    ensures { λ x. ⌜ x ≡ ownedSum (now (r .entry)) (now (w .entry)) ⌝ }
+{
+    let mut c = ChunkOff(0);
+    let mut s: u64 = 0;
+    let mut left = TURNS;
+    while left > 0 {
+        if c.0 == r[TOP] {
+            return s;
+        }
+        let n = size(w, c);
+        s = add_owned(w, c, n, s);
+        c = plus_offset(c, n);
+        left -= 1;
     }
     s
 }

@@ -1,5 +1,7 @@
 // Lines of eight decimal numbers, a byte at a time, one space between two. A line that has a # says nothing, nor does an empty one.
 // Words 0 to 7 are the line's numbers.
+ghost use mathlib.Core.Path.{_≡_};
+ghost use Rattle.recorded.specs.Lines.{lineRead, lineOdd, begun, counted, ended, endLine};
 use crate::play::NOT_READ;
 use chunk::access::sum;
 
@@ -18,7 +20,9 @@ const NUMBERS: u64 = 2;
 const ODD: u64 = 3;
 
 // Number k is being read, and is 0 so far.
-fn begin(l: &mut [u64; 10], k: u64) {
+fn begin(l: &mut [u64; 10], k: u64)
+    ensures { λ x. ⌜ now (l .exit) ≡ begun (now (l .entry)) k ⌝ }
+{
     l[AT] = k;
     if k < 8 {
         l[k as usize] = 0;
@@ -47,9 +51,14 @@ fn number_byte(l: &mut [u64; 10]) {
 }
 
 // Where a line of eight numbers ends with this byte, the next line's numbers are not begun: that is `end_line`'s.
-pub fn read_byte(l: &mut [u64; 10], b: u8) -> bool {
+pub fn read_byte(l: &mut [u64; 10], b: u8) -> bool
+    ensures { λ x. ⌜ x ≡ lineRead (now (l .entry)) b ⌝ }
+{
     if b == b'\n' {
-        return l[LINE] == NUMBERS && l[AT] == 7;
+        if l[LINE] != NUMBERS {
+            return false;
+        }
+        return l[AT] == 7;
     }
     if b == b'#' {
         l[LINE] = COMMENT;
@@ -69,19 +78,33 @@ pub fn read_byte(l: &mut [u64; 10], b: u8) -> bool {
 }
 
 // The line that ends is neither eight numbers nor a comment nor empty.
-fn is_odd(l: &[u64; 10]) -> bool {
+fn is_odd(l: &[u64; 10]) -> bool
+    ensures { λ x. ⌜ x ≡ lineOdd (now (l .entry)) ⌝ }
+{
     if l[LINE] == ODD {
         return true;
     }
-    l[LINE] == NUMBERS && l[AT] != 7
+    if l[LINE] != NUMBERS {
+        return false;
+    }
+    l[AT] != 7
 }
 
 // Lines that were not understood are counted, so that nothing is lost unsaid.
-pub fn end_line(l: &mut [u64; 10], b: u8, t: &mut [u64; 8]) {
+fn count(t: &mut [u64; 8], odd: bool)
+    ensures { λ x. ⌜ now (t .exit) ≡ counted odd (now (t .entry)) ⌝ }
+{
+    if odd {
+        t[NOT_READ] = sum(t[NOT_READ], 1);
+    }
+}
+
+pub fn end_line(l: &mut [u64; 10], b: u8, t: &mut [u64; 8])
+    ensures { λ x. ⌜ ended (now (l .exit)) (now (t .exit)) ≡ endLine (now (l .entry)) b (now (t .entry)) ⌝ }
+{
     if b == b'\n' {
-        if is_odd(l) {
-            t[NOT_READ] = sum(t[NOT_READ], 1);
-        }
+        let odd = is_odd(l);
+        count(t, odd);
         l[LINE] = EMPTY;
         begin(l, 0);
     }

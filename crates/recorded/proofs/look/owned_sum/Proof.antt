@@ -1,40 +1,43 @@
-use Prim.Native.Nat.{_≤_, _-_}
+use Rattle.recorded.proofs.SumsCode.{Owns, laws}
 use borrow.Author.Needs.{needs}
 use Rattle.recorded.proofs.look.owned_sum.Statement.{statement}
 use Rattle.recorded.proofs.look.owned_sum.Tie as tie
 
 abbrev Inv-loop : tie.InvT-loop
-Inv-loop r w c₀ s₀ -k₀ c s -k = -k ≤ 4096
+Inv-loop r w c₀ s₀ left₀ c s left = Owns r w (c .0) s left
 
 abbrev μ-loop : tie.MeasureT-loop
-μ-loop r w c₀ s₀ -k₀ c s -k = 4096 - -k
+μ-loop r w c₀ s₀ left₀ c s left = left
 
 loop-holds : tie.Need-loop-holds Inv-loop μ-loop
-loop-holds c = search needs
+loop-holds c = search (laws, needs)
 
 element-copy-out-if1 : tie.Need-element-copy-out-if1 Inv-loop μ-loop
-element-copy-out-if1 c = search needs
-
-size-requires : tie.Need-size-requires Inv-loop μ-loop
-size-requires c κs = search needs
-
-add-owned-requires : tie.Need-add-owned-requires Inv-loop μ-loop
-add-owned-requires c κs = search needs
-
-plus-offset-requires : tie.Need-plus-offset-requires Inv-loop μ-loop
-plus-offset-requires c κs = search needs
-
-add--k : tie.Need-add--k Inv-loop μ-loop
-add--k c = search needs
-
-loop-less : tie.Need-loop-less Inv-loop μ-loop
-loop-less c = search needs
-
-loop-again : tie.Need-loop-again Inv-loop μ-loop
-loop-again c = search needs
+element-copy-out-if1 c = search (laws, needs)
 
 returns : tie.Need-returns Inv-loop μ-loop
-returns c = search needs
+returns c = search (laws, needs)
+
+size-requires : tie.Need-size-requires Inv-loop μ-loop
+size-requires c κs = search (laws, needs)
+
+add-owned-requires : tie.Need-add-owned-requires Inv-loop μ-loop
+add-owned-requires c κs = search (laws, needs)
+
+plus-offset-requires : tie.Need-plus-offset-requires Inv-loop μ-loop
+plus-offset-requires c κs = search (laws, needs)
+
+sub-left : tie.Need-sub-left Inv-loop μ-loop
+sub-left c = search (laws, needs)
+
+loop-less : tie.Need-loop-less Inv-loop μ-loop
+loop-less c = search (laws, needs)
+
+loop-again : tie.Need-loop-again Inv-loop μ-loop
+loop-again c = search (laws, needs)
+
+returns-2 : tie.Need-returns-2 Inv-loop μ-loop
+returns-2 c = search (laws, needs)
 
 pub owned-sum-spec : {M : Type 1} → statement M
 owned-sum-spec =
@@ -44,10 +47,11 @@ owned-sum-spec =
     μ-loop
     loop-holds
     element-copy-out-if1
+    returns
     size-requires
     add-owned-requires
     plus-offset-requires
-    add--k
+    sub-left
     loop-less
     loop-again
-    returns)
+    returns-2)
