@@ -3,7 +3,7 @@ use mathlib.Core.Path.{_≡_, refl, sym, _∙_, ap, subst}
 use mathlib.Core.Bool.{Bool, true, false}
 use mathlib.Core.List.{List, [], _∷_}
 use mathlib.Core.Option.{Option, none, some}
-use mathlib.Core.Logic.{⊎-elim}
+use mathlib.Core.Logic.{inl, inr, ⊎-elim}
 use Prim.Native.Nat.{ℕ, _*_, _%_, _≤_, _<_, zero-le}
 use native.Mathlib.Omega.{arith}
 use lib.Dec.{leb, ltb}
@@ -22,7 +22,7 @@ use Rattle.rules.specs.BinOf.{isSmall, smallBin, binSize, trieBin, small-in, hu
 use Rattle.rules.specs.Heap.{Heap, holdsSome, heapDv}
 use Rattle.rules.specs.Binning.{sizeAt, unbin, spareWords, dvWords}
 use Rattle.rules.specs.Malloc.{Rest, to-dv, to-bin, serve, fromTop, fromSpareOrTop, fromDvOrTop, firstFilled, bestFrom, bestLarge, fromFuller, fuller, ownOrNext, fromOwn, mallocSmall, mallocFind, mallocLarge, malloc}
-use Rattle.rules.specs.Source.{Small, Source, nowhere, from-top, from-chunk, was-dv, was-binned}
+use Rattle.rules.specs.Source.{Small, Source, RestOf, nowhere, from-top, from-chunk, was-dv, was-binned}
 use Rattle.holds.specs.Holds.{SpareAt, inDv}
 use Rattle.holds.specs.Unique.{one-size}
 use Rattle.holds.specs.Where.{free-head, in-small, in-trie, trie-index}
@@ -51,7 +51,7 @@ module _ (e : Edition) (t : State) (h : Heap) (n : Says e t h []) (nb : ℕ) whe
       go (some d) q g sp =
           pick-case (Source e h nb) (leb nb (sizeAt 0 (h .chunks) d))
           (λ z. from-chunk to-dv (heapDv h none) d (sizeAt 0 (h .chunks) d)
-          (subst (λ s. Starts 0 (h .chunks) d (free s)) (sym (looked-up e t h [] d (sp .0) n (sp .1))) (sp .1)) (leb-true nb (sizeAt 0 (h .chunks) d) z) (was-dv q))
+          (subst (λ s. Starts 0 (h .chunks) d (free s)) (sym (looked-up e t h [] d (sp .0) n (sp .1))) (sp .1)) (leb-true nb (sizeAt 0 (h .chunks) d) z) (was-dv q) (inr q))
           (λ z. top-source (g (leb-false nb (sizeAt 0 (h .chunks) d) z)))
 
   -- where the spare chunk, the small bins and the tries have nothing that fits, nothing fits
@@ -85,12 +85,16 @@ module _ (e : Edition) (t : State) (h : Heap) (n : Says e t h []) (nb : ℕ) whe
   not-dv {x} z q = omega (arith, ap (λ d. inDv d x) q, ind-self x)
 
   -- a find in a trie, and the newest of a small bin
-  find-source : (k : Rest) (c : Cand) → Fits e h 0 nb c → Source e h nb (some (serve e k (unbin e h (c .at) (c .size)) (c .at) (c .size) nb))
-  find-source k c f = from-chunk k (unbin e h (c .at) (c .size)) (c .at) (c .size) (f .starts) (f .large) (was-binned (not-dv (f .not-dv)))
+  find-source : (k : Rest) (c : Cand) → Fits e h 0 nb c → ((h .dv ≡ some (c .at) → ⊥) → RestOf e h (c .at) nb k)
+      → Source e h nb (some (serve e k (unbin e h (c .at) (c .size)) (c .at) (c .size) nb))
+  find-source k c f rest =
+      from-chunk k (unbin e h (c .at) (c .size)) (c .at) (c .size) (f .starts) (f .large) (was-binned (not-dv (f .not-dv))) (rest (not-dv (f .not-dv)))
 
-  bin-source : (j x : ℕ) (xs : List ℕ) → getD (h .small) j [] ≡ x ∷ xs → nb ≤ binSize e j → Source e h nb (some (serve e to-dv (unbin e h x (binSize e j)) x (binSize e j) nb))
-  bin-source j x xs q fit =
-      from-chunk to-dv (unbin e h x (binSize e j)) x (binSize e j) (first-starts e t h n j within x xs q) fit (was-binned (not-dv (first-not-dv e t h n j within x xs q)))
+  bin-source : W e * nb < 256 → (j x : ℕ) (xs : List ℕ) → getD (h .small) j [] ≡ x ∷ xs → nb ≤ binSize e j
+      → Source e h nb (some (serve e to-dv (unbin e h x (binSize e j)) x (binSize e j) nb))
+  bin-source low j x xs q fit =
+      from-chunk to-dv (unbin e h x (binSize e j)) x (binSize e j) (first-starts e t h n j within x xs q) fit
+      (was-binned (not-dv (first-not-dv e t h n j within x xs q))) (inl low)
     where
       within : j < 32
       within = ⊎-elim (λ z. false-true (ap holdsSome (sym (List·getD-eq-default (h .small) [] {n = j} (omega (arith, z, n .small .marks .count))) ∙ q))) (λ z. z) (le-or-lt 32 j)
@@ -125,9 +129,9 @@ module _ (e : Edition) (t : State) (h : Heap) (n : Says e t h []) (nb : ℕ) whe
         none-there (p ∷ ps) z u = false-true (sym z)
 
         go : (ps : List ℕ) → getD (h .small) j [] ≡ ps → Source e h nb (fromFuller e h j ps nb)
-        go (x ∷ xs) q = bin-source j x xs q (above j (fb .from))
+        go (x ∷ xs) q = bin-source s j x xs q (above j (fb .from))
         go [] q =
-            ⊎-elim (λ f. pick-case (Source e h nb) (ltb (bestFrom h 0 nb .size) huge) (λ _. find-source to-dv (bestFrom h 0 nb) f) (λ z. false-true (sym z ∙ f .found)))
+            ⊎-elim (λ f. pick-case (Source e h nb) (ltb (bestFrom h 0 nb .size) huge) (λ _. find-source to-dv (bestFrom h 0 nb) f (λ _. inl s)) (λ z. false-true (sym z ∙ f .found)))
             (λ m. pick-case (Source e h nb) (ltb (bestFrom h 0 nb .size) huge) (λ z. false-true (sym (m .missed) ∙ z))
             (λ _. top-source (all-small dv bins (λ k u. m .small k zero-le u))))
             (small-find e t h n nb s)
@@ -149,7 +153,7 @@ module _ (e : Edition) (t : State) (h : Heap) (n : Says e t h []) (nb : ℕ) whe
         upward = pick-case (λ k. i ≤ k) (holdsSome (getD (h .small) i [])) (λ _. omega arith) (λ _. omega arith)
 
         go : (ps : List ℕ) → getD (h .small) j [] ≡ ps → Source e h nb (fromOwn e h j ps nb)
-        go (x ∷ xs) q = bin-source j x xs q (above j upward)
+        go (x ∷ xs) q = bin-source s j x xs q (above j upward)
         go [] q =
             pick-case (Source e h nb) (leb nb (dvWords h)) (λ z. dv-source l (λ u. absurd (let b : ⊥ = omega (arith, leb-true nb (dvWords h) z) in b)))
             (λ z. fuller-source (leb-false nb (dvWords h) z))
@@ -170,8 +174,8 @@ module _ (e : Edition) (t : State) (h : Heap) (n : Says e t h []) (nb : ℕ) whe
       found f =
           pick-case (Source e h nb) (ltb (c .size) huge)
           (λ _. pick-case (Source e h nb) (leb nb (dvWords h))
-          (λ z. pick-case (Source e h nb) (ltb (c .size) (dvWords h)) (λ _. find-source to-bin c f) (λ _. dv-source l (λ u. absurd (let b : ⊥ = omega (arith, leb-true nb (dvWords h) z) in b))))
-          (λ _. find-source to-bin c f))
+          (λ z. pick-case (Source e h nb) (ltb (c .size) (dvWords h)) (λ _. find-source to-bin c f (λ q. (lo, q))) (λ _. dv-source l (λ u. absurd (let b : ⊥ = omega (arith, leb-true nb (dvWords h) z) in b))))
+          (λ _. find-source to-bin c f (λ q. (lo, q))))
           (λ z. false-true (sym z ∙ f .found))
 
       missed : Misses e h 0 nb c → Source e h nb (mallocFind e h c nb)

@@ -23,7 +23,7 @@ given g q = let k : _≡_ {A = ℕ} 0 1 = cc in absurd (let b : ⊥ = omega arit
 exactly : (e : Edition) (h : Heap) (nb : ℕ) (o : Option Grant) → Source e h nb o → (o ≡ none → Tight h nb) × (Tight h nb → o ≡ none)
 exactly e h nb none (nowhere s l) = ((λ _. (s, l)), (λ _. refl))
 exactly e h nb (some g) (from-top s l) = ((λ q. given g q), (λ a. absurd (let b : ⊥ = omega (arith, a .1) in b)))
-exactly e h nb (some g) (from-chunk k h₀ x s st fit out) = ((λ q. given g q), (λ a. absurd (let b : ⊥ = omega (arith, a .0 x s st) in b)))
+exactly e h nb (some g) (from-chunk k h₀ x s st fit out rest) = ((λ q. given g q), (λ a. absurd (let b : ⊥ = omega (arith, a .0 x s st) in b)))
 
 pub no-room-exactly : (e : Edition) (t : State) (h : Heap) → Says e t h [] → (nb : ℕ) → nb % 2 ≡ 0 → 4 ≤ nb → W e * nb < huge
     → (malloc e h nb ≡ none → Tight h nb) × (Tight h nb → malloc e h nb ≡ none)

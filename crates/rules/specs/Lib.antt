@@ -15,6 +15,7 @@ pub mod Blocks
 pub mod Splice
 pub mod Leaves
 pub mod MallocLaws
+pub mod Remainder
 pub mod FreeLaws
 pub mod Cutting
 pub mod ReallocLaws

@@ -61,4 +61,4 @@ top-grants h nb t v l fit =
 pub malloc-grants : (e : Edition) (h : Heap) (nb : ℕ) → TidyHeap h → nb % 2 ≡ 0 → 4 ≤ nb → (o : Option Grant) → Source e h nb o → Grants h nb (nb + 4) (λ x. ⊥) o
 malloc-grants e h nb t v l o (nowhere small low) = tt
 malloc-grants e h nb t v l o (from-top small fit) = top-grants h nb t v l fit
-malloc-grants e h nb t v l o (from-chunk r h₀ x s st fit out) = serve-grants e r h h₀ x s nb t (starts-split 0 (h .chunks) x (free s) st) v l fit out
+malloc-grants e h nb t v l o (from-chunk r h₀ x s st fit out rest) = serve-grants e r h h₀ x s nb t (starts-split 0 (h .chunks) x (free s) st) v l fit out
