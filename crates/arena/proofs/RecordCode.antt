@@ -1,8 +1,8 @@
 -- The record and its 72 words: what the loops over the links leave, and the words that they make together. Assumes nothing.
 use mathlib.Core.List.{List, [], _∷_}
-use mathlib.Core.Path.{_≡_, refl, ap, _∙_}
+use mathlib.Core.Path.{_≡_, refl, sym, ap, _∙_}
 use mathlib.Core.Logic.{⊎-elim}
-use Prim.Native.Nat.{ℕ, zero, suc, _+_, _≤_, _<_}
+use Prim.Native.Nat.{ℕ, zero, suc, _+_, _^_, _≤_, _<_}
 use native.Mathlib.Omega.{arith}
 use lib.ListN.{length, getD, set, replicate}
 use lib.Seq.{getD-set-same, getD-set-other}
@@ -10,9 +10,9 @@ use Rattle.words.specs.Logic.{same?}
 use Rattle.chunk.specs.Bytes.{small, tree, mapOf}
 use Rattle.chunk.specs.declared.access.ChunkOff.{ChunkOff}
 use Rattle.holds.specs.Holds as holds
-use Rattle.calls.specs.Record.{reads, image, numbersOf}
+use Rattle.calls.specs.Record.{reads, wordsOf, image, numbersOf}
 use Rattle.arena.specs.Record.{offsets, copiedUp, numbers}
-use Rattle.calls.specs.RecordLaws.{reads-all}
+use Rattle.calls.specs.RecordLaws.{reads-all, Fits, image-words}
 use Rattle.arena.specs.declared.control.Control.{Control}
 
 pub offset-at : (xs : List ChunkOff) (i : ℕ) → getD xs i record { 0 = 0 } .0 ≡ getD (offsets xs) i 0
@@ -48,17 +48,26 @@ pub linked-all : (xs : List ChunkOff) (r : List ℕ) (from i : ℕ) → i ≤ 32
 linked-all xs r from i a b l f = reads-all (offsets xs) r from 32 (offsets-length xs ∙ l) (λ k u. f k (omega arith))
 
 -- the words, link by link
-pub image-made : (c : holds.Control) → copiedUp (copiedUp (c .smallMap ∷ c .treeMap ∷ c .dv ∷ c .dvSize ∷ c .top ∷ c .topSize ∷ c .length ∷ 0 ∷ replicate 64 0) 8 (c .heads) 32) 40 (c .roots) 32 ≡ image c
-unfolding image copiedUp reads
+image-made : (c : holds.Control) → copiedUp
+    (copiedUp (c .smallMap ∷ c .treeMap ∷ c .dv ∷ c .dvSize ∷ c .top ∷ c .topSize ∷ c .length ∷ 0 ∷ replicate 64 0) 8 (c .heads) 32) 40 (c .roots) 32
+    ≡ wordsOf c
+unfolding copiedUp reads
 image-made c = refl
+
+-- every record of the code has 32 heads, 32 roots and maps of 32 bits
+all-fit : (c : Control) → length (c .smallbins) ≡ 32 → length (c .treebins) ≡ 32 → c .smallmap < 2 ^ 32 → c .treemap < 2 ^ 32 → Fits (numbers c)
+all-fit c p q s t =
+    record { heads = offsets-length (c .smallbins) ∙ p; roots = offsets-length (c .treebins) ∙ q; small = s; trees = t }
 
 pub copied-all : (r : List ℕ) (from : ℕ) (xs : List ChunkOff) (i : ℕ) {v : List ℕ} → i ≤ 32 → 32 ≤ i → v ≡ copiedUp r from (offsets xs) i → v ≡ copiedUp r from (offsets xs) 32
 copied-all r from xs i l m q = q ∙ ap (copiedUp r from (offsets xs)) (let z : i ≡ 32 = omega arith in z)
 
 module _ (c : Control) {a b : List ℕ} where
-  pub image-links : a ≡ copiedUp (c .smallmap ∷ c .treemap ∷ c .dv .0 ∷ c .dvsize ∷ c .top .0 ∷ c .topsize ∷ c .length ∷ 0 ∷ replicate 64 0) 8 (offsets (c .smallbins)) 32
+  pub image-links : length (c .smallbins) ≡ 32 → length (c .treebins) ≡ 32 → c .smallmap < 2 ^ 32 → c .treemap < 2 ^ 32
+      → a ≡ copiedUp (c .smallmap ∷ c .treemap ∷ c .dv .0 ∷ c .dvsize ∷ c .top .0 ∷ c .topsize ∷ c .length ∷ 0 ∷ replicate 64 0) 8 (offsets (c .smallbins)) 32
       → b ≡ copiedUp a 40 (offsets (c .treebins)) 32 → b ≡ image (numbers c)
-  image-links p q = q ∙ ap (λ z. copiedUp z 40 (offsets (c .treebins)) 32) p ∙ image-made (numbers c)
+  image-links i j k l p q =
+      q ∙ ap (λ z. copiedUp z 40 (offsets (c .treebins)) 32) p ∙ image-made (numbers c) ∙ sym (image-words (numbers c) (all-fit c i j k l))
 
 -- the record of 72 words
 pub numbers-made : (r : List ℕ) {a b : ℕ} (hs ts : List ChunkOff) → offsets hs ≡ reads r 8 32 → offsets ts ≡ reads r 40 32 → a ≡ mapOf small r → b ≡ mapOf tree r

@@ -44,7 +44,7 @@ callVia e h (Memalign al n) = memalignVia e h (al / W e) (needWords (W e) n)
 callVia e h (Usable off) = h ∷ []
 
 -- the words that a move copies into, by the size of the block that moves
-abbrev MovedInto : Option ℕ → Option Grant → ℕ → ℕ → Type 0
+abbrev pub MovedInto : Option ℕ → Option Grant → ℕ → ℕ → Type 0
 MovedInto none o p i = ⊥
 MovedInto (some t) o p i = CopiedTo o p t i
 

@@ -122,7 +122,9 @@ calls-held e s h n c =
 
 -- liveness and usable size, of the record's numbers
 pub live-in : (e : Edition) (s : Box) (h : Heap) → HeldIn e s h → (off : ℕ) → liveB e (s .words) (s .control .top) off ≡ isSome (liveSize e 0 (h .chunks) off)
-live-in e s h n off = ap (λ z. liveB e (s .words) z off) (sym (image-top (s .control))) ∙ live-is e (image (s .control)) (s .words) h (held-image e (s .control) (s .words) h [] n) off
+live-in e s h n off =
+    ap (λ z. liveB e (s .words) z off) (sym (image-top (s .control) (held-fits e (s .control) (s .words) h [] n)))
+    ∙ live-is e (image (s .control)) (s .words) h (held-image e (s .control) (s .words) h [] n) off
 
 pub usable-in : (e : Edition) (s : Box) (h : Heap) → HeldIn e s h → (off t : ℕ) → liveSize e 0 (h .chunks) off ≡ some t → usableB e (s .words) off ≡ W e * (t - 1)
 usable-in e s h n off t u = usable-is e (image (s .control)) (s .words) h (held-image e (s .control) (s .words) h [] n) off t u

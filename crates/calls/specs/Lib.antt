@@ -15,4 +15,5 @@ pub mod Owners
 pub mod Kept
 pub mod InUse
 pub mod Lending
+pub mod Stores
 pub mod Shapes

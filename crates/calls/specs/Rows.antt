@@ -11,7 +11,7 @@ use lib.Dec.{ltb, eqb}
 use lib.ListN.{length, getD}
 use Rattle.words.specs.Logic.{pick-case, false-true}
 use Rattle.words.specs.Edition.{Edition, W, noLink}
-use Rattle.rules.specs.Calls.{Call, Malloc, Free, Realloc, Memalign, Usable, Reason, bad-count, unsound, Answer, allowedCount, isIn, alignments}
+use Rattle.rules.specs.Calls.{Call, Malloc, Free, Realloc, Memalign, Usable, Reason, bad-count, unsound, Answer, granted, done, bytes, refused, allowedCount, isIn, alignments}
 use Rattle.holds.specs.Holds.{Sound}
 use Rattle.chunk.specs.Image.{decode}
 use Rattle.sound.specs.SoundBytes.{soundB, liveB}
@@ -20,6 +20,12 @@ use Rattle.calls.specs.CallBytes.{Told, refusing, refusal, Still, grantO
 use Rattle.calls.specs.CallObeys.{call-obeys}
 
 -- ---- a refusal changes nothing
+
+pub refused-still : (a : Answer) → (refusal a ≡ 0 → ⊥) → Still a
+refused-still (granted b) f = f refl
+refused-still done f = f refl
+refused-still (bytes n) f = tt
+refused-still (refused why) f = tt
 
 module _ (e : Edition) (r w : List ℕ) where
   abbrev Quiet : Told → Type 0

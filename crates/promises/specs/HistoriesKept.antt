@@ -14,23 +14,22 @@ use Rattle.words.specs.Edition.{wide}
 use Rattle.tiling.specs.Tiling.{Chunk, used, free, Starts}
 use Rattle.rules.specs.Heap.{Heap, freshHeap}
 use Rattle.rules.specs.Tidy.{starts-in′}
-use Rattle.rules.specs.Calls.{Call, Usable, Answer, bytes, allowedCount, blockOf, liveSize, usableCall, answerTo}
+use Rattle.rules.specs.Calls.{Call, Usable, Answer, bytes, blockOf, liveSize, usableCall, answerTo}
 use Rattle.holds.specs.Holds.{freshControl}
 use Rattle.holds.specs.Unique.{NoneInUse}
 use Rattle.holds.specs.Lookup.{heads-tidy}
 use Rattle.sound.specs.SoundBytes.{usableB}
 use Rattle.decides.specs.LiveLaws.{isSome, Live, live-starts, starts-live}
 use Rattle.calls.specs.CallBytes.{refusal}
-use Rattle.calls.specs.Counts.{count-allowed, count-range}
 use Rattle.calls.specs.ByValue.{callA}
 use Rattle.calls.specs.Histories as H
 use Rattle.calls.specs.Histories.{Box, box, Event, asks, writes, writeB, asked, after, answers, heapAfter, HeldIn, calls-held, write-held, live-in, usable-in, word-of, setUpOn, from-set-up}
 use Rattle.calls.specs.InUse as use-of
 use Rattle.calls.specs.InUse.{Ledger}
-use Rattle.calls.specs.Kept.{Untouched, blocks-apart, kept}
-use Rattle.promises.specs.Promises.{LiveAt, then, NoneUnsound}
+use Rattle.calls.specs.Kept.{Unmoved, Unwritten, Kept, blocks-apart, kept}
+use Rattle.promises.specs.Promises.{Allowed, LiveAt, then, NoneUnsound}
 use Rattle.promises.specs.RowLaws.{Row, third, fourth, fifth, sixth, served, row-of}
-use Rattle.promises.specs.TheRulesKept.{value}
+use Rattle.promises.specs.GrantedBy.{value}
 
 -- ---- a live block is a chunk in use
 
@@ -97,16 +96,13 @@ none-unsound s h n (writes off i v ∷ es) = none-unsound (box (s .control) (wri
 
 -- ---- from one granted set-up
 
-module _ (w : List ℕ) (a : allowedCount (length w) ≡ true) where
-  range : (16 ≤ length w) × (length w ≤ 8192) × (length w % 2 ≡ 0)
-  range = count-range (length w) (count-allowed (length w) ∙ a)
-
+module _ (w : List ℕ) (a : Allowed (length w)) where
   -- the heap that is held after es
   abbrev pub heap : List Event → Heap
   heap es = heapAfter wide (length (setUpOn wide w .words)) (freshHeap (length w)) es
 
   goes : (es : List Event) → H.Goes wide (setUpOn wide w) (freshHeap (length w)) es
-  goes es = from-set-up wide w (range .2) (range .0) (range .1) es
+  goes es = from-set-up wide w (a .0) (a .1) (a .2) es
 
   pub held : (es : List Event) → HeldIn wide (then w es) (heap es)
   held es = goes es .held
@@ -117,7 +113,7 @@ module _ (w : List ℕ) (a : allowedCount (length w) ≡ true) where
   pub in-use : (es : List Event) (off : ℕ) → ((n : ℕ) × LiveAt (then w es) off n) ↔ Ledger (λ o. ⊥) es (answers wide (setUpOn wide w) es) off
   in-use es off =
       let u = live-is (then w es) (heap es) (held es) off in
-      let v = use-of.in-use wide w (range .2) (range .0) (range .1) es off in ((λ z. v .0 (u .0 z)), (λ z. u .1 (v .1 z)))
+      let v = use-of.in-use wide w (a .0) (a .1) (a .2) es off in ((λ z. v .0 (u .0 z)), (λ z. u .1 (v .1 z)))
 
   pub apart : (es : List Event) (off n off′ n′ : ℕ) → LiveAt (then w es) off n → LiveAt (then w es) off′ n′ → (off ≡ off′ → ⊥) → (off + n ≤ off′) ⊎ (off′ + n′ ≤ off)
   apart es off n off′ n′ p q ne =
@@ -131,15 +127,23 @@ module _ (w : List ℕ) (a : allowedCount (length w) ≡ true) where
       let b = block-of (then w es) (heap es) (held es) off n p in
       omega (arith, b .place, b .long, starts-in′ 0 (heap es .chunks) (b .at) (used (b .words)) (b .starts), held es .heads .top .ends, count es)
 
-  pub keeps : (es fs : List Event) (x n : ℕ) → LiveAt (then w es) (blockOf wide x) n → Untouched wide fs x
-      → LiveAt (after wide (then w es) fs) (blockOf wide x) n × ((i : ℕ) → 8 * i < n → getD (after wide (then w es) fs .words) (x + 2 + i) 0 ≡ getD (then w es .words) (x + 2 + i) 0)
-  keeps es fs x n p u =
+  -- what `calls` shows of the block at x over fs
+  over : (es fs : List Event) (x n : ℕ) (p : LiveAt (then w es) (blockOf wide x) n) → Unmoved wide (then w es) fs x
+      → Kept wide (then w es) (heap es) x (block-at (then w es) (heap es) (held es) x n p .0) fs
+  over es fs x n p u = let b = block-at (then w es) (heap es) (held es) x n p in kept wide (then w es) (heap es) (held es) x (b .0) (b .1) fs u
+
+  pub stays : (es fs : List Event) (x n : ℕ) → LiveAt (then w es) (blockOf wide x) n → Unmoved wide (then w es) fs x
+      → LiveAt (after wide (then w es) fs) (blockOf wide x) n
+  stays es fs x n p u =
       let b = block-at (then w es) (heap es) (held es) x n p in
-      let k = kept wide (then w es) (heap es) (held es) x (b .0) (b .1) fs u in
-      let g = H.goes wide (then w es) (heap es) (held es) fs in (
-        subst (LiveAt (after wide (then w es) fs) (blockOf wide x)) (sym (b .2)) (live-at (after wide (then w es) fs) (heapAfter wide (length (then w es .words)) (heap es) fs) (g .held) x (b .0) (k .stays)),
-        λ i l. k .words (x + 2 + i) (omega arith) (omega (arith, l, b .2)),
-      )
+      let g = H.goes wide (then w es) (heap es) (held es) fs in
+      subst (LiveAt (after wide (then w es) fs) (blockOf wide x)) (sym (b .2))
+      (live-at (after wide (then w es) fs) (heapAfter wide (length (then w es .words)) (heap es) fs) (g .held) x (b .0) (over es fs x n p u .stays))
+
+  pub keeps : (es fs : List Event) (x n i : ℕ) → LiveAt (then w es) (blockOf wide x) n → 8 * i < n → Unmoved wide (then w es) fs x → Unwritten wide fs x i
+      → getD (after wide (then w es) fs .words) (x + 2 + i) 0 ≡ getD (then w es .words) (x + 2 + i) 0
+  keeps es fs x n i p l u v =
+      over es fs x n p u .word i (omega (arith, l, block-at (then w es) (heap es) (held es) x n p .2)) v
 
   pub reads-back : (es : List Event) (x n i v : ℕ) → LiveAt (then w es) (blockOf wide x) n → 8 * i < n → getD (after wide (then w es) (writes (blockOf wide x) i v ∷ []) .words) (x + 2 + i) 0 ≡ v
   reads-back es x n i v p l =
@@ -155,7 +159,7 @@ module _ (w : List ℕ) (a : allowedCount (length w) ≡ true) where
       ap (λ q. getD q (x + 2 + i) 0) y ∙ getD-set-same (s .words) (x + 2 + i) v 0 (omega (arith, l, b .2, starts-in′ 0 (h .chunks) x (used (b .0)) (b .1), held es .heads .top .ends))
 
   pub fresh-record : (es : List Event) → ((off n : ℕ) → LiveAt (then w es) off n → ⊥) → then w es .control ≡ freshControl wide (length w)
-  fresh-record es f = H.fresh-record wide w (range .2) (range .0) (range .1) es (none-live (then w es) (heap es) (held es) f)
+  fresh-record es f = H.fresh-record wide w (a .0) (a .1) (a .2) es (none-live (then w es) (heap es) (held es) f)
 
   pub fresh-answers : (v : List ℕ) (es fs : List Event) → length v ≡ length w → ((off n : ℕ) → LiveAt (then w es) off n → ⊥) → answers wide (then w es) fs ≡ answers wide (setUpOn wide v) fs
-  fresh-answers v es fs q f = H.fresh-answers wide w (range .2) (range .0) (range .1) es (none-live (then w es) (heap es) (held es) f) v q fs
+  fresh-answers v es fs q f = H.fresh-answers wide w (a .0) (a .1) (a .2) es (none-live (then w es) (heap es) (held es) f) v q fs

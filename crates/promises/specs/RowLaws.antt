@@ -15,7 +15,6 @@ use Rattle.words.specs.Edition.{wide, dec-enc}
 use Rattle.index.specs.Sizes.{needWords}
 use Rattle.tiling.specs.Tiling.{used, Starts}
 use Rattle.rules.specs.Heap.{Heap}
-use Rattle.rules.specs.Free.{find}
 use Rattle.rules.specs.Malloc.{Grant, malloc}
 use Rattle.rules.specs.Realloc.{resizeHere, front, realloc}
 use Rattle.rules.specs.Memalign.{memalign}
@@ -34,7 +33,8 @@ use Rattle.calls.specs.CallBytes.{refusal}
 use Rattle.calls.specs.Record.{image}
 use Rattle.calls.specs.RecordLaws.{held-image}
 use Rattle.calls.specs.CallObeys.{Good, one-of, goods, place-plain, even, least, low, big}
-use Rattle.promises.specs.Promises.{Misaligned, TooLong, Dead, inPlace, ownPlace, Full}
+use Rattle.promises.specs.Promises.{Misaligned, TooLong, Dead, OwnPlace, Full}
+use Rattle.promises.specs.RoomLaws.{own-place}
 
 -- the number n is that of the first row that applies to k, in an arena of m words
 pub data Row (m : ℕ) (h : Heap) (k : Call) : ℕ → Type 0 where
@@ -102,15 +102,15 @@ module _ (c : Control) (w : List ℕ) (h : Heap) (n : Holds wide c w h) where
   free-row off = go (liveSize wide 0 (h .chunks) off) refl
     where
       go : (z : Option ℕ) → liveSize wide 0 (h .chunks) off ≡ z → Row (length w) h (Free off) (refusal (freeCall wide h z off .answer))
-      go none q = fifth (λ y. y) (λ y. y) q
-      go (some s) q = served (λ y. y) (λ y. y) (λ y. some-none (sym q ∙ y)) (λ y. y)
+      go none q = fifth (λ y. y) (λ y. omega (arith, y)) q
+      go (some s) q = served (λ y. y) (λ y. omega (arith, y)) (λ y. some-none (sym q ∙ y)) (λ y. y)
 
   usable-row : (off : ℕ) → Row (length w) h (Usable off) (refusal (answerTo wide (length w) h (Usable off) .answer))
   usable-row off = go (liveSize wide 0 (h .chunks) off) refl
     where
       go : (z : Option ℕ) → liveSize wide 0 (h .chunks) off ≡ z → Row (length w) h (Usable off) (refusal (usableCall wide h z off .answer))
-      go none q = fifth (λ y. y) (λ y. y) q
-      go (some s) q = served (λ y. y) (λ y. y) (λ y. some-none (sym q ∙ y)) (λ y. y)
+      go none q = fifth (λ y. y) (λ y. omega (arith, y)) q
+      go (some s) q = served (λ y. y) (λ y. omega (arith, y)) (λ y. some-none (sym q ∙ y)) (λ y. y)
 
   -- the block at p of s words
   module _ (off x s p : ℕ) (q : off ≡ blockOf wide p) (st : Starts 0 (h .chunks) p (used s)) where
@@ -120,18 +120,24 @@ module _ (c : Control) (w : List ℕ) (h : Heap) (n : Holds wide c w h) where
     pub found : Block (h .chunks) p s
     found = block (h .chunks) p s (heads-tidy wide w h (n .heads) .chunks) st
 
-    pub own-is : ownPlace h off x ≡ resizeHere wide h (front (found .f)) p s (needWords 8 x) (found .f .after)
-    own-is =
-        ap (λ y. inPlace h (find 0 (h .chunks) y) y (needWords 8 x)) place-is ∙ ap (λ z. inPlace h z p (needWords 8 x)) (found .finds)
-        ∙ ap (λ k. resizeHere wide h (front (found .f)) p k (needWords 8 x) (found .f .after)) (found .words)
-
     -- its own place does not hold it, and malloc finds none
     full-moved : x ≤ 8 * length w → realloc wide h (placeOf wide off) (needWords 8 x) ≡ none ↔ Full h (Realloc off x)
     full-moved fit =
         let t = tight (needWords 8 x) (even wide (image c) w h held x fit) (least wide (image c) w h held x fit) (low wide (image c) w h held x fit) in
         let f = refused-exactly wide h p s (needWords 8 x) found in
         let g = ap (λ y. realloc wide h y (needWords 8 x)) place-is in
-        ((λ z. let y = f .0 (sym g ∙ z) in (own-is ∙ y .0, t .0 (y .1))), (λ z. g ∙ f .1 (sym own-is ∙ z .0, t .1 (z .1))))
+        let own = own-place h (heads-tidy wide w h (n .heads)) off x p s found q st in
+        ((λ z. let y = f .0 (sym g ∙ z) in ((λ u. some-none (sym (own .1 u .1) ∙ y .0)), t .0 (y .1))), (λ z. g ∙ f .1 (shut own (z .0), t .1 (z .1))))
+      where
+        here : Option Heap
+        here = resizeHere wide h (front (found .f)) p s (needWords 8 x) (found .f .after)
+
+        shut : ((k : Heap) × (here ≡ some k)) ↔ OwnPlace h off x → (OwnPlace h off x → ⊥) → here ≡ none
+        shut own f = go here refl
+          where
+            go : (o : Option Heap) → here ≡ o → o ≡ none
+            go none y = refl
+            go (some k) y = absurd (f (own .0 (k, y)))
 
   realloc-row : (off x : ℕ) → Row (length w) h (Realloc off x) (refusal (answerTo wide (length w) h (Realloc off x) .answer))
   realloc-row off x =

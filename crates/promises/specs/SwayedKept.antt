@@ -36,7 +36,7 @@ module _ (c : Control) (w v : List ℕ) (h : Heap) (n : Holds wide c w h) (l : l
 pub swayed : Swayed
 swayed =
     record {
-      same-answers = λ c w v h n l f es. sym (agree-answers wide c w v h n l f es);
-      same-record = λ c w v h n l f es. same-record c w v h n l f es;
-      same-words = λ c w v h n l f es i g. same-words c w v h n l f es i g;
+      same-answers = λ c w v h n a es. sym (agree-answers wide c w v h n (a .0) (a .1) es);
+      same-record = λ c w v h n a es. same-record c w v h n (a .0) (a .1) es;
+      same-words = λ c w v h n a es. (long c w v h n (a .0) (a .1) es, same-words c w v h n (a .0) (a .1) es);
     }

@@ -1,111 +1,166 @@
 -- DEMAND 2 IS KEPT: what the calls do on held heaps is the rules' doing, so each statement is one about a rule. Assumes nothing.
-use mathlib.Core.Path.{_≡_, refl, sym, _∙_, ap}
-use mathlib.Core.Bool.{Bool, true, false}
-use mathlib.Core.List.{List, []}
-use mathlib.Core.Option.{Option, some}
-use Prim.Native.Nat.{ℕ, _-_, _*_, _≤_}
+use mathlib.Core.Path.{_≡_, refl, sym, _∙_, ap, subst}
+use mathlib.Core.Bool.{true}
+use mathlib.Core.List.{List}
+use mathlib.Core.Option.{Option, none, some}
+use mathlib.Core.Logic.{_↔_}
+use Prim.Native.Nat.{ℕ, _+_, _-_, _*_, _/_, _%_, _≤_, _<_}
 use native.Mathlib.Omega.{arith}
-use lib.Dec.{ltb}
-use borrow.Author.Tests.{ltb-false, le-ltb}
+use borrow.Author.Tests.{le-ltb}
 use lib.ListN.{length, getD}
 use Rattle.words.specs.Logic.{pick}
-use Rattle.words.specs.Edition.{wide}
+use Rattle.words.specs.Edition.{wide, dec-enc}
 use Rattle.index.specs.Sizes.{needWords}
-use Rattle.tiling.specs.Tiling.{endOf}
+use Rattle.tiling.specs.Tiling.{used, endOf, Starts}
 use Rattle.rules.specs.Heap.{Heap}
 use Rattle.rules.specs.Malloc.{Grant, grant, malloc}
-use Rattle.rules.specs.Realloc.{resizeHere, front, hereOrMoved, reallocFound, realloc}
+use Rattle.rules.specs.MallocLaws.{malloc-grants}
+use Rattle.rules.specs.Realloc.{resizeHere, front, moved, hereOrMoved, reallocFound, realloc}
+use Rattle.rules.specs.Memalign.{leadTo, aligned, memalign}
+use Rattle.rules.specs.MemalignLaws.{lead-is}
+use Rattle.rules.specs.ReallocLaws.{some-none, here-first, moves-away}
 use Rattle.rules.specs.Source.{Small, Source, nowhere, from-top, from-chunk}
-use Rattle.rules.specs.Tidy.{starts-in′}
-use Rattle.rules.specs.Calls.{Call, Malloc, Realloc, Usable, Answer, granted, done, bytes, refused, too-many, refuse, blockOf, placeOf, liveSize, grantOr6, movedOr6, reallocCall, usableCall, answerTo}
+use Rattle.rules.specs.Lookup.{Block}
+use Rattle.rules.specs.Tidy.{starts-in′, starts-size, starts-even′}
+use Rattle.rules.specs.Calls.{Call, Malloc, Free, Realloc, Memalign, Usable, granted, bytes, too-many, refuse, blockOf, placeOf, liveSize, movedOr6}
+use Rattle.rules.specs.Calls.{reallocCall, usableCall}
 use Rattle.holds.specs.Holds.{Control, Holds}
 use Rattle.holds.specs.Governed.{GovernedIn}
 use Rattle.holds.specs.Ops.{state}
 use Rattle.holds.specs.MallocSource.{malloc-source}
 use Rattle.malloc.specs.MallocObeys.{serve-place}
-use Rattle.decides.specs.LiveLaws.{live-starts}
-use Rattle.calls.specs.CallBytes.{Told, refusal}
+use Rattle.decides.specs.LiveLaws.{starts-live}
+use Rattle.calls.specs.CallBytes.{Told}
 use Rattle.calls.specs.Record.{image}
-use Rattle.calls.specs.RecordLaws.{held-image}
 use Rattle.calls.specs.ByValue.{callA}
-use Rattle.calls.specs.CallObeys.{even, least, low}
-use Rattle.calls.specs.Histories.{box, let-through, calls-held}
-use Rattle.calls.specs.Shapes.{shapes}
+use Rattle.calls.specs.CallObeys.{Good, even, least, big}
+use Rattle.calls.specs.Histories.{let-through}
 use Rattle.calls.specs.CallReach.{callVia, Copies, call-reaches}
-use Rattle.promises.specs.Promises.{TheRules, ownPlace}
-use Rattle.promises.specs.RowLaws.{place-is, found, own-is}
+use Rattle.promises.specs.Promises.{says, wants, OwnPlace}
+use Rattle.promises.specs.RoomLaws.{own-place}
+use Rattle.promises.specs.RowLaws.{place-is, found}
+use Rattle.promises.specs.GrantedBy.{answer, held, tidy, source, Resized, Aligned, by-malloc, by-realloc, by-memalign, free-none, usable-none}
 
--- the number that an answer carries
-abbrev pub value : Answer → ℕ
-value (granted b) = b
-value done = 0
-value (bytes n) = n
-value (refused why) = 0
-
-pub granted-refused : {A : Type 0} {b : ℕ} (a : Answer) → (refusal a ≡ 0 → ⊥) → a ≡ granted b → A
-granted-refused a f q = absurd (f (ap refusal q))
+-- the place of a grant
+abbrev pub place-of : Option Grant → ℕ
+place-of none = 0
+place-of (some g) = g .place
 
 module _ (c : Control) (w : List ℕ) (h : Heap) (n : Holds wide c w h) where
-  answer : (k : Call) → callA wide c w k .answer ≡ answerTo wide (length w) h k .answer
-  answer k = calls-held wide (box c w) h n k .answer
-
   -- ---- bins before the top
 
-  small-from : (nb : ℕ) → 4 ≤ nb → (o : Option Grant) → Source wide h nb o → grantOr6 wide h o .answer ≡ granted (blockOf wide (endOf 0 (h .chunks))) → Small h nb
-  small-from nb l o (nowhere s t) q = s
-  small-from nb l o (from-top s t) q = s
-  small-from nb l o (from-chunk k h₀ x s st fit out) q =
-      let a : blockOf wide x ≡ blockOf wide (endOf 0 (h .chunks)) = ap (blockOf wide) (sym (serve-place wide k h₀ x s nb)) ∙ ap value q in
-      absurd (let z : ⊥ = omega (arith, a, starts-in′ 0 (h .chunks) x _ st, fit, l) in z)
+  -- a grant that lies at the top's place or behind it
+  place-small : (m : ℕ) (o : Option Grant) → Source wide h m o → (g : Grant) → o ≡ some g → (lead : ℕ) → lead < m → endOf 0 (h .chunks) ≤ g .place + lead → Small h m
+  place-small m o (nowhere s t) g q lead l z = s
+  place-small m o (from-top s t) g q lead l z = s
+  place-small m o (from-chunk k h₀ x s st fit out rest) g q lead l z =
+      absurd (let y : ⊥ = omega (arith, l, z, fit, starts-in′ 0 (h .chunks) x _ st, sym (serve-place wide k h₀ x s m) ∙ ap place-of q) in y)
 
-  bins-first : (x : ℕ) → callA wide c w (Malloc x) .answer ≡ granted (blockOf wide (endOf 0 (h .chunks))) → Small h (needWords 8 x)
-  bins-first x q = go (ltb (8 * length w) x) refl (sym (answer (Malloc x)) ∙ q)
+  pub bins-first : (k : Call) (off : ℕ) → says c w k ≡ granted off → blockOf wide (endOf 0 (h .chunks)) ≤ off → Small h (wants k)
+  bins-first (Malloc x) off u z =
+      let b = by-malloc c w h n x off u in
+      place-small (needWords 8 x) (malloc wide h (needWords 8 x)) (source c w h n x (b .0)) (b .1 .grant) (b .1 .is) 0 (omega (arith, least wide (image c) w h (held c w h n) x (b .0))) (omega (arith, z, b .1 .place))
+  bins-first (Free b) off u z = free-none c w h n b off u
+  bins-first (Usable b) off u z = usable-none c w h n b off u
+  bins-first (Realloc b x) off u z =
+      let r = by-realloc c w h n b x off u in
+      let f = found c w h n b x (r .words) (r .at) (r .block) (r .starts) in
+      go r (here r f) (sym (found-answer r f) ∙ r .by .is)
     where
-      o : Option Grant
-      o = malloc wide h (needWords 8 x)
+      nb : ℕ
+      nb = needWords 8 x
 
-      go : (b : Bool) → ltb (8 * length w) x ≡ b → pick b (refuse h too-many) (grantOr6 wide h o) .answer ≡ granted (blockOf wide (endOf 0 (h .chunks))) → Small h (needWords 8 x)
-      go true z y = granted-refused (refused too-many) (λ u. let v : ⊥ = omega (arith, u) in v) y
-      go false z y =
-          let r = held-image wide c w h [] n in
-          let fit = ltb-false (8 * length w) x z in
-          let l = least wide (image c) w h r x fit in
-          small-from (needWords 8 x) l o (malloc-source wide (state c w) h n (needWords 8 x) (even wide (image c) w h r x fit) l (low wide (image c) w h r x fit)) y
+      here : (r : Resized c w h n b x off) → Block (h .chunks) (r .at) (r .words) → Option Heap
+      here r f = resizeHere wide h (front (f .f)) (r .at) (r .words) nb (f .f .after)
+
+      found-answer : (r : Resized c w h n b x off) (f : Block (h .chunks) (r .at) (r .words)) → realloc wide h (r .at) nb ≡ hereOrMoved wide h (here r f) (r .at) nb
+      found-answer r f =
+          ap (λ y. reallocFound wide h y (r .at) nb) (f .finds)
+          ∙ ap (λ m. hereOrMoved wide h (resizeHere wide h (front (f .f)) (r .at) m nb (f .f .after)) (r .at) nb) (f .words)
+
+      go : (r : Resized c w h n b x off) (o : Option Heap) → hereOrMoved wide h o (r .at) nb ≡ some (r .by .grant) → Small h nb
+      go r (some k) q =
+          let at : r .at ≡ r .by .grant .place = ap place-of q in
+          absurd (let y : ⊥ = omega (arith, z, at, r .by .place, starts-in′ 0 (h .chunks) (r .at) (used (r .words)) (r .starts), starts-size true 0 (h .chunks) (r .at) (used (r .words)) (tidy c w h n .chunks) (r .starts)) in y)
+      go r none q = moves (malloc wide h nb) (source c w h n x (r .fits)) q
+        where
+          moves : (o : Option Grant) → Source wide h nb o → moved wide o (r .at) ≡ some (r .by .grant) → Small h nb
+          moves none s q = some-none (sym q)
+          moves (some g) s q =
+              place-small nb (some g) s g refl 0 (omega (arith, least wide (image c) w h (held c w h n) x (r .fits))) (omega (arith, z, r .by .place, ap place-of q))
+  bins-first (Memalign al x) off u z = let r = by-memalign c w h n al x off u in go r (r .good)
+    where
+      nb : ℕ
+      nb = needWords 8 x
+
+      go : Aligned c w h n al x off → Good wide al → Small h (nb + al / 8 + 4)
+      go r g =
+          let half : al / 8 ≡ 2 * g .0 = ap (λ y. y / 8) (g .1) ∙ dec-enc wide (2 * g .0) in
+          subst (λ y. Small h (nb + y + 4)) (sym half)
+          (trimmed (malloc wide h (nb + 2 * g .0 + 4))
+          (malloc-source wide (state c w) h n (nb + 2 * g .0 + 4) (omega (arith, even wide (image c) w h (held c w h n) x (r .fits))) (omega arith) (big wide (image c) w h (held c w h n) x (r .fits) (g .0) (g .3)))
+          (ap (λ y. memalign wide h y nb) (sym half) ∙ r .by .is))
+        where
+          trimmed : (o : Option Grant) → Source wide h (nb + 2 * g .0 + 4) o → aligned wide o (2 * g .0) nb ≡ some (r .by .grant) → Small h (nb + 2 * g .0 + 4)
+          trimmed none s q = some-none (sym q)
+          trimmed (some a) s q =
+              place-small (nb + 2 * g .0 + 4) (some a) s a refl (leadTo (a .place) (2 * g .0))
+              (omega (arith, lead-is (a .place) (2 * g .0) (g .0) even-place refl (omega (arith, g .2)) .most, least wide (image c) w h (held c w h n) x (r .fits)))
+              (omega (arith, z, r .by .place, ap place-of q))
+            where
+              even-place : a .place % 2 ≡ 0
+              even-place =
+                  let m = malloc-grants wide h (nb + 2 * g .0 + 4) (tidy c w h n) (omega (arith, even wide (image c) w h (held c w h n) x (r .fits))) (omega arith) (some a) s in
+                  starts-even′ true 0 (a .heap .chunks) (a .place) (used (m .words)) (m .changes .tidy .chunks) refl (m .block)
 
   -- ---- its own place first
 
-  own-place-first : (g : Heap) (off x s : ℕ) → x ≤ 8 * length w → liveSize wide 0 (h .chunks) off ≡ some s → ownPlace h off x ≡ some g → callA wide c w (Realloc off x) .answer ≡ granted off
-  own-place-first g off x s l q own =
-      let a = live-starts wide 0 (h .chunks) off s q in
-      let p = a .0 in
-      let b = found c w h n off x s p (a .2) (a .1) in
-      let here = sym (own-is c w h n off x s p (a .2) (a .1)) ∙ own in
-      let r : realloc wide h (placeOf wide off) (needWords 8 x) ≡ some (grant p g) =
-      ap (λ y. realloc wide h y (needWords 8 x)) (place-is c w h n off x s p (a .2) (a .1)) ∙ ap (λ z. reallocFound wide h z p (needWords 8 x)) (b .finds)
-      ∙ ap (λ k. hereOrMoved wide h (resizeHere wide h (front (b .f)) p k (needWords 8 x) (b .f .after)) p (needWords 8 x)) (b .words) ∙ ap (λ z. hereOrMoved wide h z p (needWords 8 x)) here in
-      answer (Realloc off x) ∙ ap (λ z. pick z (refuse h too-many) (reallocCall wide h (liveSize wide 0 (h .chunks) off) off x) .answer) (le-ltb (8 * length w) x l)
-      ∙ ap (λ z. reallocCall wide h z off x .answer) q ∙ ap (λ z. movedOr6 wide h (placeOf wide off) s z .answer) r ∙ ap granted (sym (a .2))
+  module _ (off x p s : ℕ) (q : off ≡ blockOf wide p) (st : Starts 0 (h .chunks) p (used s)) where
+    abbrev here : Option Heap
+    here = resizeHere wide h (front (found c w h n off x s p q st .f)) p s (needWords 8 x) (found c w h n off x s p q st .f .after)
+
+    -- the block stays: the rule grants its own place
+    stays : x ≤ 8 * length w → liveSize wide 0 (h .chunks) off ≡ some s → (k : Heap) → here ≡ some k → says c w (Realloc off x) ≡ granted off
+    stays l z k own =
+        let r : realloc wide h (placeOf wide off) (needWords 8 x) ≡ some (grant p k) =
+        ap (λ y. realloc wide h y (needWords 8 x)) (place-is c w h n off x s p q st) ∙ here-first wide h p s (needWords 8 x) (found c w h n off x s p q st) k own in
+        answer c w h n (Realloc off x)
+        ∙ ap (λ b. pick b (refuse h too-many) (reallocCall wide h (liveSize wide 0 (h .chunks) off) off x) .answer) (le-ltb (8 * length w) x l)
+        ∙ ap (λ o. reallocCall wide h o off x .answer) z ∙ ap (λ o. movedOr6 wide h (placeOf wide off) s o .answer) r ∙ ap granted (sym q)
+
+    -- a grant of its own place is no move
+    no-move : x ≤ 8 * length w → (g : Grant) → realloc wide h p (needWords 8 x) ≡ some g → g .place ≡ p → (o : Option Heap) → here ≡ o → (k : Heap) × (here ≡ some k)
+    no-move l g r z (some k) y = (k, y)
+    no-move l g r z none y =
+        absurd (moves-away wide h p s (needWords 8 x) (tidy c w h n) st (even wide (image c) w h (held c w h n) x l) (least wide (image c) w h (held c w h n) x l) (source c w h n x l)
+        (found c w h n off x s p q st) y g r z)
+
+  pub own-place-first : (off x : ℕ) → says c w (Realloc off x) ≡ granted off ↔ (x ≤ 8 * length w) × OwnPlace h off x
+  own-place-first off x = (forth, back)
+    where
+      forth : says c w (Realloc off x) ≡ granted off → (x ≤ 8 * length w) × OwnPlace h off x
+      forth u =
+          let r = by-realloc c w h n off x off u in
+          let g = r .by .grant in
+          let f = found c w h n off x (r .words) (r .at) (r .block) (r .starts) in (
+            r .fits,
+            own-place h (tidy c w h n) off x (r .at) (r .words) f (r .block) (r .starts) .0
+                (no-move off x (r .at) (r .words) (r .block) (r .starts) (r .fits) g (r .by .is) (omega (arith, r .block, r .by .place)) (here off x (r .at) (r .words) (r .block) (r .starts)) refl),
+          )
+
+      back : (x ≤ 8 * length w) × OwnPlace h off x → says c w (Realloc off x) ≡ granted off
+      back u =
+          let b = u .1 in
+          let k = own-place h (tidy c w h n) off x (b .0) (b .1) (found c w h n off x (b .1) (b .0) (b .3) (b .2)) (b .3) (b .2) .1 b in
+          stays off x (b .0) (b .1) (b .3) (b .2) (u .0) (ap (liveSize wide 0 (h .chunks)) (b .3) ∙ starts-live wide true 0 (h .chunks) (b .0) (b .1) (tidy c w h n .chunks) (b .2)) (k .0) (k .1)
 
   -- ---- which words
 
-  reaches : (k : Call) (i : ℕ) → (GovernedIn (callVia wide h k) i → ⊥) → (Copies wide h k i → ⊥) → getD (callA wide c w k .words) i 0 ≡ getD w i 0
+  pub reaches : (k : Call) (i : ℕ) → (GovernedIn (callVia wide h k) i → ⊥) → (Copies wide h k i → ⊥) → getD (callA wide c w k .words) i 0 ≡ getD w i 0
   unfolding callA
-  reaches k i f g =
-      let r = held-image wide c w h [] n in
-      ap (λ (t : Told). getD (t .words) i 0) (let-through wide (image c) w h r k) ∙ call-reaches wide (image c) w h r i k f g
+  reaches k i f g = ap (λ (t : Told). getD (t .words) i 0) (let-through wide (image c) w h (held c w h n) k) ∙ call-reaches wide (image c) w h (held c w h n) i k f g
 
   -- ---- usable
 
-  usable : (off s : ℕ) → liveSize wide 0 (h .chunks) off ≡ some s → callA wide c w (Usable off) .answer ≡ bytes (8 * s - 8)
-  usable off s q = answer (Usable off) ∙ ap (λ z. usableCall wide h z off .answer) q ∙ ap bytes (let z : 8 * (s - 1) ≡ 8 * s - 8 = omega arith in z)
-
-pub the-rules : TheRules
-the-rules =
-    record {
-      obeys = λ c w h k n. let f = calls-held wide (box c w) h n k in (f .answer, f .held);
-      bins-first = λ c w h x n q. bins-first c w h n x q;
-      own-place-first = λ c w h g off x s n l q own. own-place-first c w h n g off x s l q own;
-      reaches = λ c w h k i n f g. reaches c w h n k i f g;
-      usable = λ c w h off s n q. usable c w h n off s q;
-      shape-free = λ c d w v h g n m l a es. shapes wide (box c w) (box d v) h g n m l a es;
-    }
+  pub usable : (off s : ℕ) → liveSize wide 0 (h .chunks) off ≡ some s → says c w (Usable off) ≡ bytes (8 * s - 8)
+  usable off s q = answer c w h n (Usable off) ∙ ap (λ z. usableCall wide h z off .answer) q ∙ ap bytes (let z : 8 * (s - 1) ≡ 8 * s - 8 = omega arith in z)

@@ -17,7 +17,7 @@ use Rattle.rules.specs.Heap.{Heap, heapDv, heapChunks}
 use Rattle.rules.specs.Binning.{retile, bin, replaceOld, replaceDv}
 use Rattle.rules.specs.Malloc.{Grant, grant, Rest, to-dv, to-bin, settle, serve}
 use Rattle.rules.specs.Source.{TakenOut, was-dv, was-binned, RestOf, Source, nowhere, from-top, from-chunk}
-use Rattle.rules.specs.Tidy.{TidyHeap, starts-right, starts-in′, starts-size, starts-apart′}
+use Rattle.rules.specs.Tidy.{TidyHeap, starts-left, starts-right, starts-parts, starts-in′, starts-size, starts-apart′}
 use Rattle.rules.specs.Lookup.{split-retile}
 use Rattle.rules.specs.Leaves.{SameTiles, bin-leaves, unbin-leaves, settle-leaves, taken-leaves}
 
@@ -28,6 +28,7 @@ pub record Left (e : Edition) (h g : Heap) (x s nb : ℕ) : Type 0 where
   pub spare : nb + 4 ≤ s → (W e * nb < 256) ⊎ (h .dv ≡ some x) → g .dv ≡ some (x + nb)
   pub binned : nb + 4 ≤ s → 256 ≤ W e * nb → (h .dv ≡ some x → ⊥) → g .dv ≡ h .dv
   pub stays : s < nb + 4 → (h .dv ≡ some x → ⊥) → g .dv ≡ h .dv
+  pub others : (y : ℕ) (c : Chunk) → Starts 0 (h .chunks) y c → (y ≡ x → ⊥) → Starts 0 (g .chunks) y c
 
 -- the spare chunk, after the remainder is settled and before
 settled-dv : (e : Edition) (h : Heap) (p s : ℕ) → settle e to-dv h p s .dv ≡ some p
@@ -42,7 +43,7 @@ taken-dv e h x s h₀ (was-dv q) ne = absurd (ne q)
 taken-dv e h x s h₀ (was-binned q) ne = unbin-leaves e h x s .1
 
 module _ (e : Edition) (h : Heap) (t : TidyHeap h) (nb : ℕ) where
-  module _ (r : Rest) (h₀ : Heap) (x s : ℕ) (st : Starts 0 (h .chunks) x (free s)) (out : TakenOut e h x s h₀) (rest : RestOf e h x nb r) where
+  module _ (r : Rest) (h₀ : Heap) (x s : ℕ) (st : Starts 0 (h .chunks) x (free s)) (fit : nb ≤ s) (out : TakenOut e h x s h₀) (rest : RestOf e h x nb r) where
     k : Split 0 (h .chunks) x (free s)
     k = starts-split 0 (h .chunks) x (free s) st
 
@@ -55,6 +56,15 @@ module _ (e : Edition) (h : Heap) (t : TidyHeap h) (nb : ℕ) where
     there g new y c q u =
         subst (λ z. Starts 0 z y c) (sym (q ∙ retiled new))
         (starts-right 0 (k .before) (new ++ k .after) y c (subst (λ z. Starts z (new ++ k .after) y c) (k .place) u))
+
+    -- what starts elsewhere stays, since the new chunks end where the old one did
+    elsewhere : (g : Heap) (new : List Chunk) → g .chunks ≡ retile 0 (h₀ .chunks) x new → endOf x new ≡ x + s → (y : ℕ) (c : Chunk)
+        → Starts 0 (h .chunks) y c → (y ≡ x → ⊥) → Starts 0 (g .chunks) y c
+    elsewhere g new q ends y c sy ne =
+        ⊎-elim (λ u. subst (λ z. Starts 0 z y c) (sym (q ∙ retiled new)) (starts-left 0 (k .before) (new ++ k .after) y c u))
+        (λ u. ⊎-elim (λ v. absurd (ne (v .0 ∙ sym (k .place))))
+        (λ v. there g new y c q (starts-right x new (k .after) y c (subst (λ z. Starts z (k .after) y c) (ap (λ z. z + s) (sym (k .place)) ∙ sym ends) v))) u)
+        (starts-parts 0 (k .before) (free s ∷ k .after) y c (subst (λ z. Starts 0 z y c) (k .whole) sy))
 
     abbrev cutHeap : Heap
     cutHeap = heapChunks h₀ (retile 0 (h₀ .chunks) x (used nb ∷ free (s - nb) ∷ []))
@@ -77,6 +87,7 @@ module _ (e : Edition) (h : Heap) (t : TidyHeap h) (nb : ℕ) where
           spare = λ _ u. spare-is r rest u;
           binned = λ _ l ne. binned-is r rest l ne;
           stays = λ l. absurd (let y : ⊥ = omega (arith, l, big) in y);
+          others = elsewhere (settle e r cutHeap (x + nb) (s - nb)) (used nb ∷ free (s - nb) ∷ []) (settle-leaves e r cutHeap (x + nb) (s - nb) .0) (omega arith);
         })
         (λ z. let low = leb-false 4 (s - nb) z in
         record {
@@ -85,6 +96,7 @@ module _ (e : Edition) (h : Heap) (t : TidyHeap h) (nb : ℕ) where
           spare = λ l. absurd (let y : ⊥ = omega (arith, l, low) in y);
           binned = λ l. absurd (let y : ⊥ = omega (arith, l, low) in y);
           stays = λ _ ne. taken-dv e h x s h₀ out ne;
+          others = elsewhere (heapChunks h₀ (retile 0 (h₀ .chunks) x (used s ∷ []))) (used s ∷ []) refl (omega arith);
         })
       where
         at-x : {y : ℕ} {c : Chunk} → Starts x (used nb ∷ free (s - nb) ∷ k .after) y c → Starts 0 (settle e r cutHeap (x + nb) (s - nb) .chunks) y c
@@ -109,7 +121,7 @@ module _ (e : Edition) (h : Heap) (t : TidyHeap h) (nb : ℕ) where
       place-at (some a) = a .place
   malloc-left o g (from-chunk k h₀ y u sy fit out rest) q x s st p =
       ⊎-elim (λ z. subst (λ (a : Heap). Left e h a x s nb) (ap heap-at q)
-      (subst (λ m. Left e h (serve e k h₀ y u nb .heap) m s nb) (z .0) (subst (λ m. Left e h (serve e k h₀ y u nb .heap) y m nb) (ap size (z .1)) (serve-left k h₀ y u sy out rest))))
+      (subst (λ m. Left e h (serve e k h₀ y u nb .heap) m s nb) (z .0) (subst (λ m. Left e h (serve e k h₀ y u nb .heap) y m nb) (ap size (z .1)) (serve-left k h₀ y u sy fit out rest))))
       (λ z. absurd (let w : ⊥ = ⊎-elim (λ v. apart v) (λ v. apart′ v) z in w))
       (starts-apart′ 0 (h .chunks) y (free u) x (free s) sy st)
     where

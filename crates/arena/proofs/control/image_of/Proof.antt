@@ -1,4 +1,8 @@
 use Rattle.arena.proofs.RecordCode.{image-links}
+use mathlib.Core.Path.{sym, _∙_}
+use lib.ListN.{length-map}
+use mir.Facts.{fits-lt-pow}
+use Rattle.chunk.proofs.access.ChunkOff as off
 use borrow.Author.Needs.{needs}
 use Rattle.arena.proofs.control.image_of.Statement.{statement}
 use Rattle.arena.proofs.control.image_of.Tie as tie
@@ -52,7 +56,14 @@ copy-links-requires-2 c κs = search needs
 
 -- src/control.rt:57:1
 returns : tie.Need-returns
-returns c = image-links (c .before .before .before .before .before .before .before .before .args .c) (c .before .before .copy-links .ensures) (c .copy-links2 .ensures)
+returns c =
+    let r = c .before .before .before .before .before .before .before .before .args .c in
+    let maps = c .before .before .before .before .before .before .before .struct-known .given in
+    let links = c .before .before .before .before .before .before .before .before .good .0 .1 .1 .1 .1 in
+    image-links r
+    (sym (length-map (r .smallbins) (off.the-field .into)) ∙ links .0 .1 .0 .1)
+    (sym (length-map (r .treebins) (off.the-field .into)) ∙ links .1 .0 .1 .0 .1)
+    (fits-lt-pow (maps .0)) (fits-lt-pow (maps .1 .0)) (c .before .before .copy-links .ensures) (c .copy-links2 .ensures)
 
 pub image-of-spec : {M : Type 1} → statement M
 image-of-spec =
