@@ -19,7 +19,8 @@ use Rattle.rules.specs.Calls.{Call, Outcome, answerTo, blockOf, liveSize}
 use Rattle.rules.specs.Tidy.{starts-apart′}
 use Rattle.sound.specs.SoundBytes.{usableB}
 use Rattle.decides.specs.LiveLaws.{isSome, live-starts}
-use Rattle.calls.specs.Histories.{Box, box, Event, asks, writes, writeB, asked, after, heapAfter, HeldIn, let-through, calls-held, live-in, usable-in, word-of, below, write-held}
+use Rattle.calls.specs.Histories.{Box, box, Event, asks, writes, rebuilds, writeB, asked, remadeBox, after, heapAfter, HeldIn, let-through, calls-held, live-in, usable-in, word-of, below, write-held, remade-held}
+use Rattle.calls.specs.Rebuilds.{remade}
 use Rattle.calls.specs.CallBytes.{Told}
 use Rattle.calls.specs.Record.{image}
 use Rattle.calls.specs.RecordLaws.{held-image}
@@ -30,6 +31,7 @@ use Rattle.calls.specs.Owners.{Names, call-leaves}
 abbrev pub Touches : Edition → Event → ℕ → Type 0
 Touches e (asks c) x = Names e c x
 Touches e (writes off k v) x = off ≡ blockOf e x
+Touches e rebuilds x = ⊥
 
 abbrev pub Untouched : Edition → List Event → ℕ → Type 0
 Untouched e [] x = Unit {0}
@@ -87,4 +89,11 @@ kept e s h n x z st (writes off k v ∷ es) u =
     record {
       stays = subst (λ (k′ : ℕ). Starts 0 (heapAfter e k′ h es .chunks) x (used z)) (f .count) (g .stays);
       words = spares-trans x z (s .words) (writeB e s off k v) (after e (box (s .control) (writeB e s off k v)) es .words) (write-spares e s h n x z st off k v (u .0)) (g .words);
+    }
+kept e s h n x z st (rebuilds ∷ es) u =
+    let f = remade-held e s h n in
+    let g = kept e (remadeBox e s) (remade e h) (f .held) x z (subst (λ cs. Starts 0 cs x (used z)) (sym (f .chunks)) st) es (u .1) in
+    record {
+      stays = subst (λ (k : ℕ). Starts 0 (heapAfter e k (remade e h) es .chunks) x (used z)) (f .count) (g .stays);
+      words = spares-trans x z (s .words) (remadeBox e s .words) (after e (remadeBox e s) es .words) (f .keeps x z st) (g .words);
     }

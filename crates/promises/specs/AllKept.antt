@@ -7,6 +7,8 @@ use Rattle.promises.specs.AnyInputKept.{any-input, fresh-start}
 use Rattle.promises.specs.TheRulesKept.{the-rules}
 use Rattle.promises.specs.HistoriesKept as history
 use Rattle.promises.specs.ResizeKept.{resize-keeps}
+use Rattle.promises.specs.Requests.{Requests}
+use Rattle.promises.specs.RebuildKept.{rebuild}
 use Rattle.promises.specs.SwayedKept.{swayed}
 use Rattle.promises.specs.SettledKept.{settled}
 
@@ -26,3 +28,7 @@ histories =
 
 pub kept : Promises
 kept = record { any-input = any-input; the-rules = the-rules; histories = histories; swayed = swayed; settled = settled }
+
+-- and document 02's requests
+pub requests-kept : Requests
+requests-kept = record { rebuild = rebuild }
