@@ -26,7 +26,8 @@ use Rattle.holds.specs.Lookup.{heads-tidy}
 use Rattle.chunk.specs.Held.{Held}
 use Rattle.decides.specs.LiveLaws.{Live, live-starts}
 use Rattle.calls.specs.CallObeys.{place-plain, Good, one-of, goods, malloc-blocks, realloc-blocks, memalign-blocks}
-use Rattle.calls.specs.Histories.{Box, box, Event, asks, writes, rebuilds, writeB, asked, remadeBox, answers, heapAfter, HeldIn, calls-held, write-held, remade-held, setUpOn}
+use Rattle.calls.specs.Histories.{Box, box, Event, asks, writes, rebuilds, writeB, asked, remadeBox}
+use Rattle.calls.specs.Histories.{answers, heapAfter, HeldIn, calls-held, write-held, remade-held, setUpOn}
 use Rattle.calls.specs.Rebuilds.{remade}
 use Rattle.calls.specs.Record.{image}
 use Rattle.calls.specs.RecordLaws.{held-image}

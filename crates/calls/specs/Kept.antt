@@ -19,7 +19,8 @@ use Rattle.rules.specs.Calls.{Call, Outcome, answerTo, blockOf, liveSize}
 use Rattle.rules.specs.Tidy.{starts-apart′}
 use Rattle.sound.specs.SoundBytes.{usableB}
 use Rattle.decides.specs.LiveLaws.{isSome, live-starts}
-use Rattle.calls.specs.Histories.{Box, box, Event, asks, writes, rebuilds, writeB, asked, remadeBox, after, heapAfter, HeldIn, let-through, calls-held, live-in, usable-in, word-of, below, write-held, remade-held}
+use Rattle.calls.specs.Histories.{Box, box, Event, asks, writes, rebuilds, writeB, asked, remadeBox, after, heapAfter}
+use Rattle.calls.specs.Histories.{HeldIn, let-through, calls-held, live-in, usable-in, word-of, below, write-held, remade-held}
 use Rattle.calls.specs.Rebuilds.{remade}
 use Rattle.calls.specs.CallBytes.{Told}
 use Rattle.calls.specs.Record.{image}

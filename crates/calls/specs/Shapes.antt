@@ -47,7 +47,8 @@ use Rattle.calls.specs.Record.{image}
 use Rattle.calls.specs.RecordLaws.{held-image}
 use Rattle.calls.specs.ByValue.{callA}
 use Rattle.calls.specs.CallObeys.{Good, one-of, goods, place-plain, even, least, low, big}
-use Rattle.calls.specs.Histories.{Box, box, Event, asks, writes, rebuilds, writeB, asked, remadeBox, answers, HeldIn, Does, calls-held, write-held, remade-held, sways}
+use Rattle.calls.specs.Histories.{Box, box, Event, asks, writes, rebuilds, writeB, asked, remadeBox}
+use Rattle.calls.specs.Histories.{answers, HeldIn, Does, calls-held, write-held, remade-held, sways}
 use Rattle.rebuild.specs.Rebuilding.{rebuiltHeap}
 use Rattle.calls.specs.Rebuilds.{remade}
 

@@ -25,7 +25,8 @@ use Rattle.calls.specs.Counts.{count-allowed, count-range}
 use Rattle.calls.specs.ByValue.{callA}
 use Rattle.calls.specs.Histories as H
 use Rattle.calls.specs.Rebuilds.{remade}
-use Rattle.calls.specs.Histories.{Box, box, Event, asks, writes, rebuilds, writeB, asked, remadeBox, after, answers, heapAfter, HeldIn, calls-held, write-held, remade-held, live-in, usable-in, word-of, setUpOn, from-set-up}
+use Rattle.calls.specs.Histories.{Box, box, Event, asks, writes, rebuilds, writeB, asked, remadeBox, after, answers}
+use Rattle.calls.specs.Histories.{heapAfter, HeldIn, calls-held, write-held, remade-held, live-in, usable-in, word-of, setUpOn, from-set-up}
 use Rattle.calls.specs.InUse as use-of
 use Rattle.calls.specs.InUse.{Ledger}
 use Rattle.calls.specs.Kept.{Untouched, blocks-apart, kept}

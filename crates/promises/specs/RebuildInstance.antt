@@ -1,5 +1,5 @@
--- REQUEST (xiii) IN NUMBERS, on 128 words: document 01's state D loses its record, is rebuilt, serves, is rebuilt again, and all is given back;
--- in which order free chunks of one size then stand in their bin; and what is refused. Computed. Assumes nothing.
+-- REQUEST (xiii) IN NUMBERS, on 128 words: document 01's state D loses its record, is rebuilt, serves, is rebuilt again, and all is given
+-- back; in which order free chunks of one size then stand in their bin; and what is refused. Computed. Assumes nothing.
 use mathlib.Core.Path.{_≡_, refl, sym, _∙_, ap, subst}
 use mathlib.Core.List.{List, [], _∷_}
 use mathlib.Core.Logic.{inl, inr}

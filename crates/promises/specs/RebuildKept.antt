@@ -102,7 +102,8 @@ module _ (w : List ℕ) (start : ℕ) where
   refused-1 (by-2 a s n q) = ((λ z. absurd (omega (arith, z, number-of q))), (λ u. absurd (not-both w start u a s)))
   refused-1 (done-with cs ts m q) = ((λ z. absurd (omega (arith, z, q))), (λ u. absurd (not-both w start u (m .0) (m .1))))
 
-  refused-2 : Ways w start → number ≡ 2 ↔ ((allowedCount (length w) ≡ true) × (start ≡ 0) × ((cs : List Chunk) (ts : ℕ) → Heads wide w cs ts → ⊥))
+  refused-2 : Ways w start
+      → number ≡ 2 ↔ ((allowedCount (length w) ≡ true) × (start ≡ 0) × ((cs : List Chunk) (ts : ℕ) → Heads wide w cs ts → ⊥))
   refused-2 (by-1 u q) = ((λ z. absurd (omega (arith, z, number-of q))), (λ m. absurd (not-both w start u (m .0) (m .1))))
   refused-2 (by-2 a s n q) = ((λ _. (a, s, n)), (λ _. number-of q))
   refused-2 (done-with cs ts m q) = ((λ z. absurd (omega (arith, z, q))), (λ u. absurd (u .2 cs ts (m .2))))
@@ -155,7 +156,8 @@ module _ (w : List ℕ) (start : ℕ) (cs : List Chunk) (ts : ℕ) (m : Meets w 
 
     there : Holds wide (then v (inOrder cs) .control) (then v (inOrder cs) .words) heap
     there =
-        subst (λ (n : ℕ). HeldIn wide (then v (inOrder cs)) (heapAfter wide n (freshHeap (length w)) (inOrder cs))) (history.count v fits [] ∙ l)
+        subst (λ (n : ℕ). HeldIn wide (then v (inOrder cs)) (heapAfter wide n (freshHeap (length w)) (inOrder cs)))
+        (history.count v fits [] ∙ l)
         (subst (λ (n : ℕ). HeldIn wide (then v (inOrder cs)) (heapAfter wide (length (then v [] .words)) (freshHeap n) (inOrder cs))) l
         (history.held v fits (inOrder cs)))
 
@@ -189,7 +191,8 @@ rebuild =
       same-record = λ w v start cs ts m l.
           control-unique wide _ _ _ _ (heap w start cs ts m) (long w start cs ts m v l) (held w start cs ts m) (there w start cs ts m v l);
       same-words = λ w v start cs ts i m l g.
-          governed-same wide _ _ _ _ (heap w start cs ts m) (long w start cs ts m v l) (held w start cs ts m) (there w start cs ts m v l) i g;
+          governed-same wide _ _ _ _ (heap w start cs ts m) (long w start cs ts m v l) (held w start cs ts m)
+          (there w start cs ts m v l) i g;
       writes-links = λ w start cs ts i m u. made w start cs ts m .reach i (λ b. u (bin-word cs i b));
       keeps = λ w start cs ts x n i m st l. made w start cs ts m .keeps x n st (x + 2 + i) (omega arith) (omega (arith, l));
       in-a-history = λ w es a. remade-held wide (then w es) (history.heap w a es) (history.held w a es) .answer;

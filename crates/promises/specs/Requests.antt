@@ -1,6 +1,6 @@
 -- DOCUMENT 02'S REQUESTS, one record each. A sentence stands above each statement; that all hold is `requests-kept` in `AllKept`.
--- Throughout, w is the arena's words, start its address modulo 4,096, cs its chunks in address order without the top, ts the top's words, es a
--- history, and what a rebuild hands back is `rebuildA` of `calls`, `ByValue`, which the contract of the call cites. Assumes nothing.
+-- Throughout, w is the arena's words, start its address modulo 4,096, cs its chunks in address order without the top, ts the top's words,
+-- es a history, and what a rebuild hands back is `rebuildA` of `calls`, `ByValue`, which the contract of the call cites. Assumes nothing.
 use mathlib.Core.Path.{_≡_}
 use mathlib.Core.Bool.{true, false}
 use mathlib.Core.List.{List, [], _∷_, _++_}
@@ -27,8 +27,8 @@ use Rattle.promises.specs.Promises.{LiveAt, then}
 
 -- ---- (xiii) rebuild after a lost record
 
--- the word count and the start are set-up's, and the words meet the first two points of "Sound": the chunks cs tile 0 to the top, the top of ts
--- words ends at length - 80, and sizes, flags, free feet and the foot word are right
+-- the word count and the start are set-up's, and the words meet the first two points of "Sound": the chunks cs tile 0 to the top, the top
+-- of ts words ends at length - 80, and sizes, flags, free feet and the foot word are right
 abbrev pub Meets : List ℕ → ℕ → List Chunk → ℕ → Type 0
 Meets w start cs ts = (allowedCount (length w) ≡ true) × (start ≡ 0) × Heads wide w cs ts
 

@@ -1,5 +1,5 @@
--- The rebuild's code: one law for each return, what the tests and the callees have told put together as the definition says it. Over the edition.
--- Assumes nothing.
+-- The rebuild's code: one law for each return, what the tests and the callees have told put together as the definition says it. Over the
+-- edition. Assumes nothing.
 use mathlib.Core.Bool.{Bool, true, false, _&&_}
 use mathlib.Core.List.{List}
 use mathlib.Core.Path.{_≡_, refl, sym, ap, _∙_, subst}
@@ -51,7 +51,8 @@ module _ (E : Edition) (w : List ℕ) (end : ℕ) where
   seek-at zero p pu l q = absurd (omega arith)
   seek-at (suc k) p pu l q = rw q refl
 
-  seek-none : (left p : ℕ) (pu : Bool) → 0 < left → topHere E w end p pu ≡ false → chunkAt E w p pu end .size ≡ 0 → seekTop E w end left p pu ≡ noLink E
+  seek-none : (left p : ℕ) (pu : Bool) → 0 < left → topHere E w end p pu ≡ false → chunkAt E w p pu end .size ≡ 0
+      → seekTop E w end left p pu ≡ noLink E
   unfolding seekTop
   seek-none zero p pu l q z = absurd (omega arith)
   seek-none (suc k) p pu l q z = rw (q, eq-eqb (chunkAt E w p pu end .size) 0 z) refl
@@ -84,12 +85,14 @@ module _ (E : Edition) (w : List ℕ) (end : ℕ) where
           there z = q (ap (λ (s : Step). s .size) f ∙ z)
 
           pub seek-fits : {b : ℕ} → end < b → p + n < b
-          seek-fits b = let z : n ≡ chunkAt E w p pu end .size = ap (λ (s : Step). s .size) f in omega (arith, chunk-size E w p pu end there)
+          seek-fits b =
+              let z : n ≡ chunkAt E w p pu end .size = ap (λ (s : Step). s .size) f in omega (arith, chunk-size E w p pu end there)
 
           pub seek-turn : Seeking E w end (p + n) u (left - 1)
           seek-turn = record {
             low = omega (arith, v .low);
-            same = ap (λ (s : Step). seekTop E w end (left - 1) (p + s .size) (s .used)) f ∙ sym (seek-next left p pu a (sym e ∙ no) there) ∙ v .same;
+            same = ap (λ (s : Step). seekTop E w end (left - 1) (p + s .size) (s .used)) f
+                ∙ sym (seek-next left p pu a (sym e ∙ no) there) ∙ v .same;
           }
 
 module _ (E : Edition) (w : List ℕ) (end : ℕ) {y : ℕ} (e : y ≡ word E w end 1) where
@@ -138,12 +141,14 @@ module _ (E : Edition) (top : ℕ) where
   fill-top (suc k) p r w a l = rw (le-ltb p top l) refl
 
   fill-next : (left p : ℕ) (r w : List ℕ) → 0 < left → p < top
-      → let t = enterB E r w p (sizeB E w p) in fillFrom E top left p r w ≡ fillFrom E top (left - 1) (wrap E (p + sizeB E w p)) (t .image) (t .words)
+      → let t = enterB E r w p (sizeB E w p) in
+      fillFrom E top left p r w ≡ fillFrom E top (left - 1) (wrap E (p + sizeB E w p)) (t .image) (t .words)
   unfolding fillFrom
   fill-next zero p r w a l = absurd (omega arith)
   fill-next (suc k) p r w a l =
       rw (lt-ltb p top l)
-      (ap (λ x. fillFrom E top x (wrap E (p + sizeB E w p)) (enterB E r w p (sizeB E w p) .image) (enterB E r w p (sizeB E w p) .words)) (let y : k ≡ suc k - 1 = omega arith in y))
+      (ap (λ x. fillFrom E top x (wrap E (p + sizeB E w p)) (enterB E r w p (sizeB E w p) .image) (enterB E r w p (sizeB E w p) .words))
+      (let y : k ≡ suc k - 1 = omega arith in y))
 
   pub fill-start : (r w : List ℕ) → FillsOn E top r w 0 r w turns
   fill-start r w = record { low = omega arith; count = refl; same = refl }
@@ -162,14 +167,16 @@ module _ (E : Edition) (top : ℕ) where
       pub done-words : top ≤ p → w ≡ fillFrom E top turns 0 r₀ w₀ .words
       done-words l = ap (λ (s : Store). s .words) (sym (fill-top left p r w a l) ∙ v .same)
 
-      pub fill-turn : {n q : ℕ} {r₁ w₁ : List ℕ} → p < top → n ≡ sizeB E w p → r₁ ≡ enterB E r w p n .image → w₁ ≡ enterB E r w p n .words → length w₁ ≡ length w → q ≡ wrap E (p + n) → FillsOn E top r₀ w₀ q r₁ w₁ (left - 1)
+      pub fill-turn : {n q : ℕ} {r₁ w₁ : List ℕ} → p < top → n ≡ sizeB E w p → r₁ ≡ enterB E r w p n .image → w₁ ≡ enterB E r w p n .words
+          → length w₁ ≡ length w → q ≡ wrap E (p + n) → FillsOn E top r₀ w₀ q r₁ w₁ (left - 1)
       fill-turn {n} {q} {r₁} {w₁} l s f g k h = record {
         low = omega (arith, v .low);
         count = k ∙ v .count;
         same = next n s q h r₁ f w₁ g ∙ v .same;
       }
         where
-          next : (n : ℕ) → n ≡ sizeB E w p → (q : ℕ) → q ≡ wrap E (p + n) → (r₁ : List ℕ) → r₁ ≡ enterB E r w p n .image → (w₁ : List ℕ) → w₁ ≡ enterB E r w p n .words
+          next : (n : ℕ) → n ≡ sizeB E w p → (q : ℕ) → q ≡ wrap E (p + n) → (r₁ : List ℕ) → r₁ ≡ enterB E r w p n .image → (w₁ : List ℕ)
+              → w₁ ≡ enterB E r w p n .words
               → fillFrom E top (left - 1) q r₁ w₁ ≡ fillFrom E top left p r w
           next n s q h r₁ f w₁ g =
               rw (h, f, g, s) (sym (fill-next left p r w a l))
@@ -186,11 +193,13 @@ seek-before E w end (suc k) p pu =
     let b = headIs E w p (end - p) in
     pick-case (λ x. (x ≡ noLink E → ⊥) → x ≤ end) (topHere E w end p pu)
     (λ q _. let l : p < end = ltb-true p end (and-right pu a (and-left (pu && a) b q)) in omega (arith, l))
-    (λ _. pick-case (λ x. (x ≡ noLink E → ⊥) → x ≤ end) (eqb (st .size) 0) (λ _ n. absurd (n refl)) (λ _. seek-before E w end k (p + st .size) (st .used)))
+    (λ _. pick-case (λ x. (x ≡ noLink E → ⊥) → x ≤ end) (eqb (st .size) 0) (λ _ n. absurd (n refl))
+    (λ _. seek-before E w end k (p + st .size) (st .used)))
 
 top-before : (E : Edition) (w : List ℕ) (end : ℕ) → (topOf E w end ≡ noLink E → ⊥) → topOf E w end ≤ end
 unfolding topOf
-top-before E w end = pick-case (λ x. (x ≡ noLink E → ⊥) → x ≤ end) (eqb (word E w end 1) (10 * W E)) (λ _. seek-before E w end turns 0 true) (λ _ n. absurd (n refl))
+top-before E w end = pick-case (λ x. (x ≡ noLink E → ⊥) → x ≤ end) (eqb (word E w end 1) (10 * W E))
+    (λ _. seek-before E w end turns 0 true) (λ _ n. absurd (n refl))
 
 pub top-rest : (E : Edition) (w : List ℕ) (end : ℕ) {t : ℕ} → t ≡ topOf E w end → (t ≡ noLink E → ⊥) → t ≤ end
 top-rest E w end f n = subst (λ y. y ≤ end) (sym f) (top-before E w end (λ z. n (f ∙ z)))

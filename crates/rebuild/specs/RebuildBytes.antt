@@ -1,6 +1,7 @@
--- THE WORDS LEVEL of the rebuild (document 02, (xiii)): given only the arena's words and its start, what it answers, the record's image it
--- makes and the words it leaves, for all inputs. One walk of the heads finds the top; a second enters the free chunks into their bins, from the
--- lowest offset up. Both walks have a bound, reads are total, sums of the second wrap. Places and sizes are bytes. Both editions. Assumes nothing.
+-- THE WORDS LEVEL of the rebuild (document 02, (xiii)): given only the arena's words and its start, what it answers, the record's image
+-- it makes and the words it leaves, for all inputs. One walk of the heads finds the top; a second enters the free chunks into their bins,
+-- from the lowest offset up. Both walks have a bound, reads are total, sums of the second wrap. Places and sizes are bytes. Both
+-- editions. Assumes nothing.
 use mathlib.Core.Bool.{Bool, true, _&&_}
 use mathlib.Core.List.{List, _∷_}
 use Prim.Native.Nat.{ℕ, zero, suc, _+_, _-_, _*_}

@@ -1,6 +1,7 @@
--- THE REBUILD IS RIGHT: it is granted exactly when the heads, flags, free feet and the foot word tell a tiling, the first two points of document 01's "Sound";
--- what it leaves is then held, with those chunks and no spare chunk, and passes the check; it wrote links of free chunks only, so every owner's words are as
--- they were. Refused, it hands back the empty record and the words as given. Both editions, every arena. Assumes nothing.
+-- THE REBUILD IS RIGHT: it is granted exactly when the heads, flags, free feet and the foot word tell a tiling, the first two points of
+-- document 01's "Sound"; what it leaves is then held, with those chunks and no spare chunk, and passes the check; it wrote links of free
+-- chunks only, so every owner's words are as they were. Refused, it hands back the empty record and the words as given. Both editions,
+-- every arena. Assumes nothing.
 use mathlib.Core.Path.{_≡_, refl, sym, _∙_, ap, subst}
 use mathlib.Core.Bool.{true, false, _&&_}
 use mathlib.Core.List.{List, []}
@@ -34,7 +35,8 @@ use Rattle.chunk.specs.ChunkReach.{Same}
 use Rattle.marks.specs.Marks.{turns}
 use Rattle.sound.specs.SoundBytes.{countOk, soundB}
 use Rattle.decides.specs.SoundLaws.{count-yes, sound-there, decides-of}
-use Rattle.rebuild.specs.RebuildBytes.{topOf, seekTop, fillFrom, emptyImage, Rebuilt, refuses, grants, withTop, allowedStart, rebuildB}
+use Rattle.rebuild.specs.RebuildBytes.{topOf, seekTop, fillFrom, emptyImage, Rebuilt, refuses}
+use Rattle.rebuild.specs.RebuildBytes.{grants, withTop, allowedStart, rebuildB}
 use Rattle.rebuild.specs.Rebuilding.{bareHeap, rebuiltHeap, freePlaces, count-places, Stays, enter-stays}
 use Rattle.rebuild.specs.SeekLaws.{seek-yes, seek-there}
 use Rattle.rebuild.specs.FillSteps.{Filling, Filled, fills}
@@ -82,7 +84,8 @@ module _ (e : Edition) (w : List ℕ) (even : length w % 2 ≡ 0) (least : 16 �
       (λ x u. absurd (let z : ⊥ = omega (arith, u, ap (count x) (getD-replicate 32 i leaf leaf l)) in z))) (fresh .tries)
 
   -- every free chunk is loose
-  bare-near : (cs : List Chunk) (ts : ℕ) → Heads e w cs ts → Near e (bareControl e (enc e (endOf 0 cs)) (enc e ts) (W e * length w)) w (bareHeap cs ts) (freePlaces 0 cs)
+  bare-near : (cs : List Chunk) (ts : ℕ) → Heads e w cs ts
+      → Near e (bareControl e (enc e (endOf 0 cs)) (enc e ts) (W e * length w)) w (bareHeap cs ts) (freePlaces 0 cs)
   unfolding bareControl
   bare-near cs ts k =
       record {
@@ -99,12 +102,14 @@ module _ (e : Edition) (w : List ℕ) (even : length w % 2 ≡ 0) (least : 16 �
         tie = λ x. omega (arith, sum-empty (countL x) [] 32 refl, sum-empty (count x) leaf 32 refl, count-places 0 cs x);
       }
 
-  starting : (cs : List Chunk) (ts : ℕ) → Heads e w cs ts → Filling e 0 cs (emptyImage e (enc e (endOf 0 cs)) (enc e ts) (W e * length w)) w (bareHeap cs ts)
+  starting : (cs : List Chunk) (ts : ℕ) → Heads e w cs ts
+      → Filling e 0 cs (emptyImage e (enc e (endOf 0 cs)) (enc e ts) (W e * length w)) w (bareHeap cs ts)
   starting cs ts k =
       record {
         held = record {
           image = length-empty e (enc e (endOf 0 cs)) (enc e ts) (W e * length w);
-          near = subst (λ c. Near e c w (bareHeap cs ts) (freePlaces 0 cs)) (sym (decode-empty e (enc e (endOf 0 cs)) (enc e ts) (W e * length w))) (bare-near cs ts k);
+          near = subst (λ c. Near e c w (bareHeap cs ts) (freePlaces 0 cs))
+              (sym (decode-empty e (enc e (endOf 0 cs)) (enc e ts) (W e * length w))) (bare-near cs ts k);
         };
         part = λ q c s. s;
         ends = refl;
@@ -138,14 +143,17 @@ module _ (e : Edition) (w : List ℕ) (even : length w % 2 ≡ 0) (least : 16 �
 
   pub top-found : (cs : List Chunk) (ts : ℕ) → Heads e w cs ts → topOf e w (enc e t) ≡ enc e (endOf 0 cs)
   top-found cs ts k =
-      let foot : getD w (t + 1) 0 ≡ W e * 10 = ap (λ i. getD w i 0) (let z : t + 1 ≡ endOf 0 cs + ts + 1 = omega (arith, k .top .ends) in z) ∙ k .top .foot in
-      whole ∙ ap (λ b. pick b (seekTop e w (enc e t) turns (enc e 0) true) (noLink e)) (eq-eqb (getD w (t + 1) 0) (10 * W e) (foot ∙ sym (ten e)))
+      let z : t + 1 ≡ endOf 0 cs + ts + 1 = omega (arith, k .top .ends) in
+      let foot : getD w (t + 1) 0 ≡ W e * 10 = ap (λ i. getD w i 0) z ∙ k .top .foot in
+      whole ∙ ap (λ b. pick b (seekTop e w (enc e t) turns (enc e 0) true) (noLink e))
+      (eq-eqb (getD w (t + 1) 0) (10 * W e) (foot ∙ sym (ten e)))
       ∙ seek-there e w t (omega (arith, least)) (omega (arith, even, least)) foot turns 0 true cs ts refl k (omega (arith, most))
 
   pub top-told : (topOf e w (enc e t) ≡ noLink e → ⊥) → Tiling e w
   top-told n =
       pick-case (λ x. (x ≡ noLink e → ⊥) → Tiling e w) (eqb (getD w (t + 1) 0) (10 * W e))
-      (λ z m. let s = seek-yes e w t (omega (arith, least)) (omega (arith, even, least)) (eqb-true (getD w (t + 1) 0) (10 * W e) z ∙ ten e) turns 0 true refl (omega arith) m in (s .0, s .1, s .2))
+      (λ z m. let s = seek-yes e w t (omega (arith, least)) (omega (arith, even, least))
+      (eqb-true (getD w (t + 1) 0) (10 * W e) z ∙ ten e) turns 0 true refl (omega arith) m in (s .0, s .1, s .2))
       (λ z m. absurd (m refl)) (λ z. n (whole ∙ z))
 
 -- ---- all of it
@@ -179,7 +187,8 @@ pub record Rebuilds (e : Edition) (w : List ℕ) (cs : List Chunk) (ts : ℕ) (x
   -- "live blocks keep place and words"
   pub owners : (q s : ℕ) → Starts 0 cs q (used s) → (i : ℕ) → q + 2 ≤ i → i ≤ q + s → Same i w (x .words)
 
-module _ (e : Edition) (w : List ℕ) (cs : List Chunk) (ts : ℕ) (u : Store) (f : Filled e w (bareHeap cs ts) (rebuiltHeap e cs ts) u) (k : Heads e w cs ts) where
+module _ (e : Edition) (w : List ℕ) (cs : List Chunk) (ts : ℕ) (u : Store) (f : Filled e w (bareHeap cs ts) (rebuiltHeap e cs ts) u)
+    (k : Heads e w cs ts) where
   rebuilds-of : Rebuilds e w cs ts (grants u)
   rebuilds-of =
       let s = enter-stays e (bareHeap cs ts) 0 cs in
@@ -190,8 +199,11 @@ module _ (e : Edition) (w : List ℕ) (cs : List Chunk) (ts : ℕ) (u : Store) (
         passes = sound-there e (u .image) (u .words) (f .held .image) (rebuiltHeap e cs ts, n);
         stays = s;
         count = omega (arith, n .heads .top .ends, k .top .ends, ap (endOf 0) (s .chunks), s .top);
-        reach = λ i z. f .reach i (λ v. z (subst (λ ds. BinWord e ds i) (s .chunks) (linked-bin e (decode (u .image)) (u .words) (rebuiltHeap e cs ts) n i v)));
-        owners = λ q z st i lo hi. f .reach i (λ v. owner-apart e (decode (u .image)) (u .words) (rebuiltHeap e cs ts) [] n q z (subst (λ ds. Starts 0 ds q (used z)) (sym (s .chunks)) st) i lo hi (inr v));
+        reach = λ i z. f .reach i
+            (λ v. z (subst (λ ds. BinWord e ds i) (s .chunks) (linked-bin e (decode (u .image)) (u .words) (rebuiltHeap e cs ts) n i v)));
+        owners = λ q z st i lo hi. f .reach i
+            (λ v. owner-apart e (decode (u .image)) (u .words) (rebuiltHeap e cs ts) [] n q z
+            (subst (λ ds. Starts 0 ds q (used z)) (sym (s .chunks)) st) i lo hi (inr v));
       }
 
 -- the two ends of it
@@ -199,7 +211,8 @@ module _ (e : Edition) (w : List ℕ) (len end : ℕ) where
   with-none : (top : ℕ) → top ≡ noLink e → withTop e w len end top ≡ refuses e 2 w
   with-none top q = rw (eq-eqb top (noLink e) q) refl
 
-  with-top : (top : ℕ) → (top ≡ noLink e → ⊥) → withTop e w len end top ≡ grants (fillFrom e top turns 0 (emptyImage e top (end - top) len) w)
+  with-top : (top : ℕ) → (top ≡ noLink e → ⊥)
+      → withTop e w len end top ≡ grants (fillFrom e top turns 0 (emptyImage e top (end - top) len) w)
   with-top top n = rw (ne-eqb top (noLink e) n) refl
 
 module _ (e : Edition) (w : List ℕ) (start : ℕ) where
@@ -224,11 +237,13 @@ module _ (e : Edition) (w : List ℕ) (start : ℕ) where
     no-tiling n =
         let k = count-yes (length w) c in
         past-count
-        ∙ with-none e w len end (topOf e w end) (⊎-elim (λ q. q) (λ m. absurd (n (top-told e w (k .2) (k .0) (k .1) m))) (same? (topOf e w end) (noLink e)))
+        ∙ with-none e w len end (topOf e w end)
+        (⊎-elim (λ q. q) (λ m. absurd (n (top-told e w (k .2) (k .0) (k .1) m))) (same? (topOf e w end) (noLink e)))
 
     -- else it is granted
     pub rebuilds : (cs : List Chunk) (ts : ℕ) → Heads e w cs ts → Rebuilds e w cs ts (rebuildB e w start)
-    rebuilds cs ts k = subst (Rebuilds e w cs ts) (sym same) (rebuilds-of e w cs ts (fillFrom e (enc e top) turns (enc e 0) (emptyImage e (enc e top) (enc e ts) len) w) filled k)
+    rebuilds cs ts k = subst (Rebuilds e w cs ts) (sym same)
+        (rebuilds-of e w cs ts (fillFrom e (enc e top) turns (enc e 0) (emptyImage e (enc e top) (enc e ts) len) w) filled k)
       where
         n : (16 ≤ length w) × (length w ≤ 8192) × (length w % 2 ≡ 0)
         n = count-yes (length w) c
@@ -241,12 +256,15 @@ module _ (e : Edition) (w : List ℕ) (start : ℕ) where
 
         same : rebuildB e w start ≡ grants (fillFrom e (enc e top) turns (enc e 0) (emptyImage e (enc e top) (enc e ts) len) w)
         same =
-            past-count ∙ ap (withTop e w len end) (top-found e w (n .2) (n .0) (n .1) cs ts k) ∙ with-top e w len end (enc e top) (none-free e top)
+            past-count ∙ ap (withTop e w len end) (top-found e w (n .2) (n .0) (n .1) cs ts k)
+            ∙ with-top e w len end (enc e top) (none-free e top)
             ∙ ap (λ z. grants (fillFrom e (enc e top) turns 0 (emptyImage e (enc e top) z len) w)) rest
             ∙ ap (λ z. grants (fillFrom e (enc e top) turns z (emptyImage e (enc e top) (enc e ts) len) w)) (zero-bytes e)
 
-        filled : Filled e w (bareHeap cs ts) (rebuiltHeap e cs ts) (fillFrom e (enc e top) turns (enc e 0) (emptyImage e (enc e top) (enc e ts) len) w)
-        filled = fills e turns 0 cs (emptyImage e (enc e top) (enc e ts) len) w (bareHeap cs ts) (starting e w (n .2) (n .0) (n .1) cs ts k) (omega (arith, k .top .ends, n .1))
+        filled : Filled e w (bareHeap cs ts) (rebuiltHeap e cs ts)
+            (fillFrom e (enc e top) turns (enc e 0) (emptyImage e (enc e top) (enc e ts) len) w)
+        filled = fills e turns 0 cs (emptyImage e (enc e top) (enc e ts) len) w (bareHeap cs ts)
+            (starting e w (n .2) (n .0) (n .1) cs ts k) (omega (arith, k .top .ends, n .1))
 
     -- "granted exactly when the heads, flags, free feet and foot word meet the first two points of Sound"
     pub granted-exactly : Decides (eqb (rebuildB e w start .refusal) 0) (Tiling e w)
@@ -254,6 +272,7 @@ module _ (e : Edition) (w : List ℕ) (start : ℕ) where
         decides-of (eqb (rebuildB e w start .refusal) 0) (Tiling e w)
         (λ q. let k = count-yes (length w) c in
         top-told e w (k .2) (k .0) (k .1)
-        (λ z. let y : rebuildB e w start .refusal ≡ 2 = ap (λ (x : Rebuilt). x .refusal) (past-count ∙ with-none e w len end (topOf e w end) z) in
+        (λ z. let y : rebuildB e w start .refusal
+        ≡ 2 = ap (λ (x : Rebuilt). x .refusal) (past-count ∙ with-none e w len end (topOf e w end) z) in
         omega (arith, y, eqb-true (rebuildB e w start .refusal) 0 q)))
         (λ k. eq-eqb (rebuildB e w start .refusal) 0 (rebuilds (k .0) (k .1) (k .2) .granted))

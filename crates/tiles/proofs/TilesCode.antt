@@ -149,13 +149,15 @@ module _ (m : List ℕ) (p : ℕ) (u : Bool) where
 -- ---- the walk
 
 -- the size of a chunk that is there lies before the top
-pub chunk-size : (E : Edition) (w : List ℕ) (p : ℕ) (pu : Bool) (top : ℕ) → (chunkAt E w p pu top .size ≡ 0 → ⊥) → p + chunkAt E w p pu top .size ≤ top
+pub chunk-size : (E : Edition) (w : List ℕ) (p : ℕ) (pu : Bool) (top : ℕ) → (chunkAt E w p pu top .size ≡ 0 → ⊥)
+    → p + chunkAt E w p pu top .size ≤ top
 unfolding chunkAt
 chunk-size E w p pu top =
     pick-case (λ (s : Step). (s .size ≡ 0 → ⊥) → p + s .size ≤ top) (roomFor E p (headSize E w p) top)
     (λ q. pick-case (λ (s : Step). (s .size ≡ 0 → ⊥) → p + s .size ≤ top) (eqb (flagsOf E (word E w p 1)) (usedFlags pu))
     (λ _ _. room-end p (headSize E w p) top E q)
-    (λ _. pick-case (λ (s : Step). (s .size ≡ 0 → ⊥) → p + s .size ≤ top) (freeOk E w pu (flagsOf E (word E w p 1)) (headSize E w p) (p + headSize E w p))
+    (λ _. pick-case (λ (s : Step). (s .size ≡ 0 → ⊥) → p + s .size ≤ top)
+    (freeOk E w pu (flagsOf E (word E w p 1)) (headSize E w p) (p + headSize E w p))
     (λ _ _. room-end p (headSize E w p) top E q) (λ _ n. absurd (n refl))))
     (λ _ n. absurd (n refl))
 
@@ -208,7 +210,8 @@ module _ (w : List ℕ) (top : ℕ) (m₀ : List ℕ) (p : ℕ) (pu : Bool) (m :
         there z = q (ap (λ (s : Step). s .size) e ∙ z)
 
         pub walk-fits : top < 2 ^ 64 → p + n < 2 ^ 64
-        walk-fits b = let z : n ≡ chunkAt wide w p pu top .size = ap (λ (s : Step). s .size) e in omega (arith, chunk-size wide w p pu top there)
+        walk-fits b = let z : n
+            ≡ chunkAt wide w p pu top .size = ap (λ (s : Step). s .size) e in omega (arith, chunk-size wide w p pu top there)
 
         pub walk-turn : {m₁ : List ℕ} → m₁ ≡ pick u m (setMark wide m p) → Walks w top m₀ (p + n) u m₁ (left - 1)
         walk-turn {m₁} z =

@@ -28,7 +28,13 @@ image-of-requires c κs = search needs
 
 -- src/lib.rt:87:5
 hand-out-requires : tie.Need-hand-out-requires
-hand-out-requires c κs = (lent-72 _ _ (c .before .before .before .before .before .before .before .before .before .lent-ok .ensures) (not-false _ (c .before .before .before .before .before .before .before .before .if1 .left)), lent-2 _ _ (c .before .before .before .before .before .before .before .before .before .lent-ok .ensures) (not-false _ (c .before .before .before .before .before .before .before .before .if1 .left)))
+hand-out-requires c κs = (
+  lent-72 _ _ (c .before .before .before .before .before .before .before .before .before .lent-ok .ensures)
+      (not-false _ (c .before .before .before .before .before .before .before .before .if1 .left)),
+  lent-2 _ _
+      (c .before .before .before .before .before .before .before .before .before .lent-ok .ensures)
+      (not-false _ (c .before .before .before .before .before .before .before .before .if1 .left)),
+)
 
 -- src/lib.rt:77:1
 same-length : tie.Need-same-length
@@ -44,7 +50,12 @@ same-length-3 c = search needs
 
 -- src/lib.rt:77:1
 returns-2 : tie.Need-returns-2
-returns-2 c = rebuild-said _ _ _ (c .before .before .before .before .before .before .before .before .before .before .before .before .before .before .lent-ok .ensures) (not-false _ (c .before .before .before .before .before .before .before .before .before .before .before .before .before .if1 .left)) _ _ _ (c .before .before .before .before .before .before .before .before .before .before .before .rebuild .ensures) (c .before .before .before .before .before .before .image-of .ensures) (c .before .before .before .before .hand-out .ensures .0) (c .before .before .before .before .hand-out .ensures .1 .0) (c .before .before .before .before .hand-out .ensures .1 .1)
+returns-2 c = rebuild-said _ _ _
+    (c .before .before .before .before .before .before .before .before .before .before .before .before .before .before .lent-ok .ensures)
+    (not-false _ (c .before .before .before .before .before .before .before .before .before .before .before .before .before .if1 .left)) _
+    _ _ (c .before .before .before .before .before .before .before .before .before .before .before .rebuild .ensures)
+    (c .before .before .before .before .before .before .image-of .ensures) (c .before .before .before .before .hand-out .ensures .0)
+    (c .before .before .before .before .hand-out .ensures .1 .0) (c .before .before .before .before .hand-out .ensures .1 .1)
 
 pub nuka-rebuild-spec : {M : Type 1} → statement M
 nuka-rebuild-spec =
