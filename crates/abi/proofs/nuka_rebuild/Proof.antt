@@ -16,7 +16,7 @@ lent-ok-requires c κs = search needs
 
 -- src/lib.rt:82:9
 returns : tie.Need-returns
-returns c = rebuild-lost _ _ _ (c .before .lent-ok .ensures) (not-true _ (c .if1 .taken))
+returns c = rebuild-lost _ _ _ (c .before .lent-ok .ensures) _ (not-true _ (c .if1 .taken))
 
 -- src/lib.rt:84:9
 rebuild-requires : tie.Need-rebuild-requires
@@ -51,7 +51,7 @@ same-length-3 c = search needs
 -- src/lib.rt:77:1
 returns-2 : tie.Need-returns-2
 returns-2 c = rebuild-said _ _ _
-    (c .before .before .before .before .before .before .before .before .before .before .before .before .before .before .lent-ok .ensures)
+    (c .before .before .before .before .before .before .before .before .before .before .before .before .before .before .lent-ok .ensures) _
     (not-false _ (c .before .before .before .before .before .before .before .before .before .before .before .before .before .if1 .left)) _
     _ _ (c .before .before .before .before .before .before .before .before .before .before .before .rebuild .ensures)
     (c .before .before .before .before .before .before .image-of .ensures) (c .before .before .before .before .hand-out .ensures .0)
