@@ -1,10 +1,10 @@
 -- REQUEST (xiii) IN NUMBERS, on 128 words: document 01's state D loses its record, is rebuilt, serves, is rebuilt again, and all is given
 -- back; in which order free chunks of one size then stand in their bin; and what is refused. Computed. Assumes nothing.
 use mathlib.Core.Path.{_≡_, refl, sym, _∙_, ap, subst}
-use mathlib.Core.List.{List, [], _∷_}
+use mathlib.Core.List.{List, [], _∷_, _++_}
 use mathlib.Core.Logic.{inl, inr}
 use mathlib.Core.Option.{none, some}
-use Prim.Native.Nat.{ℕ, _+_, _*_, _<_}
+use Prim.Native.Nat.{ℕ, _+_}
 use native.Mathlib.Omega.{arith}
 use lib.ListN.{getD, replicate}
 use Rattle.words.specs.Edition.{wide}
@@ -38,7 +38,7 @@ abbrev to-D : List Event
 to-D = asks (Malloc 24) ∷ asks (Malloc 25) ∷ asks (Malloc 232) ∷ asks (Malloc 233) ∷ asks (Free 96) ∷ asks (Malloc 24) ∷ []
 
 abbrev lost : List Event
-lost = asks (Malloc 24) ∷ asks (Malloc 25) ∷ asks (Malloc 232) ∷ asks (Malloc 233) ∷ asks (Free 96) ∷ asks (Malloc 24) ∷ rebuilds ∷ []
+lost = to-D ++ (rebuilds ∷ [])
 
 pub spare-before : heap to-D .dv ≡ some 14
 unfolding needWords need roundUp treeIndex minSize huge
@@ -61,8 +61,7 @@ live-on-D =
 -- the bin serves, a second rebuild is granted, and when all is given back the record is the fresh one
 abbrev to-the-end : List Event
 to-the-end =
-    asks (Malloc 24) ∷ asks (Malloc 25) ∷ asks (Malloc 232) ∷ asks (Malloc 233) ∷ asks (Free 96) ∷ asks (Malloc 24) ∷ rebuilds
-    ∷ asks (Malloc 100) ∷ asks (Free 16) ∷ rebuilds ∷ asks (Free 48) ∷ asks (Free 96) ∷ asks (Free 128) ∷ asks (Free 336) ∷ []
+    lost ++ (asks (Malloc 100) ∷ asks (Free 16) ∷ rebuilds ∷ asks (Free 48) ∷ asks (Free 96) ∷ asks (Free 128) ∷ asks (Free 336) ∷ [])
 
 pub answered-lost : answers wide (setUpOn wide zeros) to-the-end
     ≡ granted 16 ∷ granted 48 ∷ granted 96 ∷ granted 336 ∷ done ∷ granted 96 ∷ done
@@ -85,9 +84,7 @@ small-ones =
     ∷ asks (Free 144) ∷ asks (Free 80) ∷ asks (Free 16) ∷ []
 
 abbrev small-again : List Event
-small-again =
-    asks (Malloc 24) ∷ asks (Malloc 24) ∷ asks (Malloc 24) ∷ asks (Malloc 24) ∷ asks (Malloc 24) ∷ asks (Malloc 24)
-    ∷ asks (Free 144) ∷ asks (Free 80) ∷ asks (Free 16) ∷ rebuilds ∷ []
+small-again = small-ones ++ (rebuilds ∷ [])
 
 pub newest-is-highest : (getD (heap small-ones .small) 4 [] ≡ 0 ∷ 8 ∷ 16 ∷ []) × (getD (heap small-again .small) 4 [] ≡ 16 ∷ 8 ∷ 0 ∷ [])
 unfolding needWords need roundUp treeIndex minSize huge
@@ -100,9 +97,7 @@ large-ones =
     ∷ asks (Free 624) ∷ asks (Free 320) ∷ asks (Free 16) ∷ []
 
 abbrev large-again : List Event
-large-again =
-    asks (Malloc 264) ∷ asks (Malloc 24) ∷ asks (Malloc 264) ∷ asks (Malloc 24) ∷ asks (Malloc 264) ∷ asks (Malloc 24)
-    ∷ asks (Free 624) ∷ asks (Free 320) ∷ asks (Free 16) ∷ rebuilds ∷ []
+large-again = large-ones ++ (rebuilds ∷ [])
 
 pub first-is-lowest : (getD (heap large-ones .tries) 0 leaf ≡ node 76 (38 ∷ 0 ∷ []) 34 leaf leaf)
     × (getD (heap large-again .tries) 0 leaf ≡ node 0 (38 ∷ 76 ∷ []) 34 leaf leaf)

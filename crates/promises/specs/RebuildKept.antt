@@ -5,11 +5,11 @@ use mathlib.Core.Bool.{Bool, true, false, _&&_}
 use mathlib.Core.List.{List, [], _∷_, _++_}
 use mathlib.Core.Logic.{_↔_, _⊎_, inl, inr, ⊎-elim}
 use mathlib.Core.Option.{none}
-use Prim.Native.Nat.{ℕ, _+_, _*_, _≤_, _<_}
+use Prim.Native.Nat.{ℕ, _+_, _*_, _<_}
 use native.Mathlib.Omega.{arith}
 use lib.Dec.{eqb}
-use lib.ListN.{length, getD}
-use borrow.Author.Tests.{lt-ltb, eq-eqb, ne-eqb, eqb-true}
+use lib.ListN.{length}
+use borrow.Author.Tests.{lt-ltb, eq-eqb, ne-eqb}
 use Rattle.words.specs.Logic.{Decides, pick-case, same?, false-true}
 use Rattle.words.specs.Edition.{wide, noLink}
 use Rattle.tiling.specs.Tiling.{Chunk, Heads, end-total}
@@ -31,7 +31,7 @@ use Rattle.calls.specs.Record.{emptyControl}
 use Rattle.calls.specs.Counts.{count-allowed}
 use Rattle.calls.specs.ByValue.{Ends, ends, rebuildA}
 use Rattle.calls.specs.Rebuilds.{Remakes, remakes, rebuild-count, rebuild-unsound}
-use Rattle.calls.specs.Histories.{Event, rebuilds, heapAfter, HeldIn, remade-held}
+use Rattle.calls.specs.Histories.{rebuilds, heapAfter, HeldIn, remade-held}
 use Rattle.promises.specs.Requests.{Meets, asksAll, inOrder, BinWord, Rebuild}
 use Rattle.promises.specs.HistoriesKept as history
 use Rattle.promises.specs.SettledKept.{one}

@@ -10,7 +10,7 @@ use Prim.Native.Nat.{ℕ, _+_, _*_, _≤_, _<_}
 use lib.ListN.{length, getD}
 use Rattle.words.specs.Edition.{wide, noLink}
 use Rattle.tiling.specs.Tiling.{Chunk, used, free, Heads, Starts}
-use Rattle.rules.specs.Heap.{Heap, freshHeap}
+use Rattle.rules.specs.Heap.{freshHeap}
 use Rattle.rules.specs.Calls.{Call, done, allowedCount, blockOf}
 use Rattle.holds.specs.Holds.{Holds}
 use Rattle.holds.specs.Governed.{Governed}

@@ -3,12 +3,6 @@ use Rattle.abi.proofs.AbiCode.{lent-72, lent-2, rebuild-lost, rebuild-s
 use borrow.Author.Needs.{needs}
 use Rattle.abi.proofs.nuka_rebuild.Statement.{statement}
 use Rattle.abi.proofs.nuka_rebuild.Tie as tie
-use Rattle.abi.proofs.nuka_rebuild.Reads as reads
-use Rattle.abi.proofs.nuka_rebuild.Lts as lts
-use Rattle.abi.proofs.hand_out.Reads as hand-out-reads
-use Rattle.abi.proofs.lent_ok.Reads as lent-ok-reads
-use Rattle.arena.proofs.control.image_of.Reads as image-of-reads
-use Rattle.arena.proofs.rebuild.Reads as rebuild-reads
 
 -- src/lib.rt:81:9
 lent-ok-requires : tie.Need-lent-ok-requires
