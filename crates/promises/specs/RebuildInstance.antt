@@ -15,7 +15,7 @@ use Rattle.tries.specs.Bits.{bit}
 use Rattle.tries.specs.Tree.{leaf, node}
 use Rattle.rules.specs.BinOf.{huge}
 use Rattle.rules.specs.Heap.{Heap, freshHeap}
-use Rattle.rules.specs.Calls.{Malloc, Free, granted, done}
+use Rattle.rules.specs.Calls.{Malloc, Free, granted, done, allowedCount}
 use Rattle.holds.specs.Holds.{freshControl}
 use Rattle.holds.specs.Unique.{NoneInUse}
 use Rattle.calls.specs.CallBytes.{refusal}
@@ -23,8 +23,9 @@ use Rattle.calls.specs.ByValue.{rebuildA}
 use Rattle.calls.specs.Histories as H
 use Rattle.calls.specs.Histories.{Event, asks, rebuilds, remadeBox, answers, heapAfter, setUpOn, from-set-up}
 use Rattle.promises.specs.Promises.{LiveAt, then}
+use Rattle.promises.specs.Requests.{Meets}
 use Rattle.promises.specs.AllKept.{requests-kept}
-use Rattle.promises.specs.HistoriesKept.{live-at, held}
+use Rattle.promises.specs.HistoriesKept.{live-at, held, count}
 
 abbrev zeros : List ℕ
 zeros = replicate 128 0
@@ -57,6 +58,17 @@ unfolding needWords need roundUp treeIndex minSize huge
 live-on-D =
     requests-kept .rebuild .stays-live zeros to-D 4 40 refl
     (live-at (then zeros to-D) (heap to-D) (held zeros refl to-D) 4 6 (inr (inl (refl, refl)))) .0
+
+-- its record is the one that our own calls leave on a fresh arena: five chunks taken in address order, and the fourth given back
+meets-D : Meets (then zeros to-D .words) 0 (heap to-D .chunks) (heap to-D .top)
+meets-D = (ap allowedCount (count zeros refl to-D), refl, held zeros refl to-D .heads)
+
+pub by-calls : rebuildA wide (then zeros to-D .words) 0 .control
+    ≡ then zeros (asks (Malloc 24) ∷ asks (Malloc 40) ∷ asks (Malloc 24) ∷ asks (Malloc 200) ∷ asks (Malloc 248) ∷ asks (Free 128) ∷ []) .control
+unfolding needWords need roundUp treeIndex minSize huge
+by-calls =
+    requests-kept .rebuild .same-record (then zeros to-D .words) zeros 0 (heap to-D .chunks) (heap to-D .top) meets-D
+    (sym (count zeros refl to-D))
 
 -- the bin serves, a second rebuild is granted, and when all is given back the record is the fresh one
 abbrev to-the-end : List Event
