@@ -64,7 +64,8 @@ meets-D : Meets (then zeros to-D .words) 0 (heap to-D .chunks) (heap to-D .top)
 meets-D = (ap allowedCount (count zeros refl to-D), refl, held zeros refl to-D .heads)
 
 pub by-calls : rebuildA wide (then zeros to-D .words) 0 .control
-    ≡ then zeros (asks (Malloc 24) ∷ asks (Malloc 40) ∷ asks (Malloc 24) ∷ asks (Malloc 200) ∷ asks (Malloc 248) ∷ asks (Free 128) ∷ []) .control
+    ≡ then zeros (asks (Malloc 24) ∷ asks (Malloc 40) ∷ asks (Malloc 24) ∷ asks (Malloc 200) ∷ asks (Malloc 248)
+    ∷ asks (Free 128) ∷ []) .control
 unfolding needWords need roundUp treeIndex minSize huge
 by-calls =
     requests-kept .rebuild .same-record (then zeros to-D .words) zeros 0 (heap to-D .chunks) (heap to-D .top) meets-D
@@ -98,7 +99,8 @@ small-ones =
 abbrev small-again : List Event
 small-again = small-ones ++ (rebuilds ∷ [])
 
-pub newest-is-highest : (getD (heap small-ones .small) 4 [] ≡ 0 ∷ 8 ∷ 16 ∷ []) × (getD (heap small-again .small) 4 [] ≡ 16 ∷ 8 ∷ 0 ∷ [])
+pub newest-is-highest : (getD (heap small-ones .small) 4 [] ≡ 0 ∷ 8 ∷ 16 ∷ [])
+    × (getD (heap small-again .small) 4 [] ≡ 16 ∷ 8 ∷ 0 ∷ [])
 unfolding needWords need roundUp treeIndex minSize huge
 newest-is-highest = (refl, refl)
 
