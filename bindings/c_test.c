@@ -1,4 +1,4 @@
-/* Document 01's morning, a few refusals and an owner's words, from C. Says how many of its checks fail. */
+/* Document 01's morning, a few refusals, an owner's words and a rebuild, from C. Says how many of its checks fail. */
 #include "nukasobe.h"
 #include <stdio.h>
 #include <string.h>

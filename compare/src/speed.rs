@@ -76,9 +76,9 @@ fn rebuilds() {
     println!("\nnanoseconds a chunk, rebuild, the best and the middle of {ROUNDS} rounds");
     println!("| heap | chunks | best | middle |");
     println!("|---|---|---|---|");
-    let every = |_: usize| false;
+    let none = |_: usize| false;
     let second = |k: usize| k % 2 == 1;
-    heap_rebuilt("all in use, 32 bytes each", 24, every);
+    heap_rebuilt("all in use, 32 bytes each", 24, none);
     heap_rebuilt("half free in one small bin, 32 bytes each", 24, second);
     heap_rebuilt("half free in one ring, 272 bytes each", 264, second);
     heap_rebuilt("half free in trees, 256 to 1,264 bytes", 0, second);
