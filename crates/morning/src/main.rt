@@ -178,6 +178,11 @@ fn foot_word_lost(w: &mut [u64; 128]) {
     say::record(rebuild(w, 0));
 }
 
+fn lost(w: &mut [u64; 128]) {
+    record_lost(w);
+    foot_word_lost(w);
+}
+
 fn not_starred(w: &mut [u64; 128]) {
     resized(w, 920);
     resized(w, 921);
@@ -207,6 +212,5 @@ fn main() {
     let mut w = [0u64; 128];
     not_starred(&mut w);
     starred(&mut w);
-    record_lost(&mut w);
-    foot_word_lost(&mut w);
+    lost(&mut w);
 }
