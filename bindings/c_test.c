@@ -1,4 +1,4 @@
-/* Document 01's morning, a few refusals and an owner's words, from C. Says how many of its checks fail. */
+/* Document 01's morning, a few refusals, an owner's words and a rebuild, from C. Says how many of its checks fail. */
 #include "nukasobe.h"
 #include <stdio.h>
 #include <string.h>
@@ -50,6 +50,20 @@ int main(void) {
     check_number("short record", nuka_malloc(rec, 71, arena, 128, out, NUKA_OUT_WORDS, 1), NUKA_NOT_SOUND);
     check_number("short out", nuka_malloc(rec, NUKA_RECORD_WORDS, arena, 128, out, 1, 1), NUKA_NOT_SOUND);
     check_number("unchanged", memcmp(before, arena, sizeof arena) != 0, 0);
+
+    memset(rec, 0x5a, sizeof rec);
+    check("rebuild refused", nuka_rebuild(LENT, 16), NUKA_WORD_COUNT, 0);
+    check_number("the empty record", rec[4], NUKA_NONE);
+    arena[1] ^= 4;
+    check("not an arena", nuka_rebuild(LENT, 0), NUKA_NOT_SOUND, 0);
+    arena[1] ^= 4;
+    check_number("unchanged by them", memcmp(before, arena, sizeof arena) != 0, 0);
+    memset(rec, 0x5a, sizeof rec);
+    check("rebuild", nuka_rebuild(LENT, 0), NUKA_OK, 0);
+    check_number("sound again", nuka_sound(rec, NUKA_RECORD_WORDS, arena, 128), NUKA_OK);
+    check_number("no spare chunk", rec[2], NUKA_NONE);
+    check("still live", nuka_usable(LENT, 592), NUKA_OK, 104);
+    check_number("its first word", arena[74], 7);
 
     check("free 704", nuka_free(LENT, 704), NUKA_OK, 0);
     check("free 592", nuka_free(LENT, 592), NUKA_OK, 0);

@@ -27,8 +27,8 @@ extern "C" {
 /* When the library says no, in the order in which it asks. */
 enum nuka_refusal {
     NUKA_OK = 0,
-    NUKA_WORD_COUNT = 1, /* the arena's word count is odd, below 16 or above 8,192 */
-    NUKA_NOT_SOUND = 2,  /* record and arena are not sound, or not a pair */
+    NUKA_WORD_COUNT = 1, /* the arena's word count is odd, below 16 or above 8,192; rebuild: or the start is not 0 */
+    NUKA_NOT_SOUND = 2,  /* record and arena are not sound, or not a pair; rebuild: the words are no sound arena's */
     NUKA_ALIGNMENT = 3,  /* memalign: the alignment is none of 32, 64, .. 4,096 */
     NUKA_TOO_MANY = 4,   /* more bytes than the arena has */
     NUKA_NOT_LIVE = 5,   /* no live block starts at the offset */
@@ -38,6 +38,14 @@ enum nuka_refusal {
 /* Makes a fresh heap of the whole arena: writes the record and two words of the arena. Knows only refusal 1, and then
  * writes the empty record (every place none, every other number 0), with which every call is refused. */
 uint64_t nuka_setup(uint64_t *rec, size_t rec_words, uint64_t *arena, size_t words, uint64_t *out, size_t out_words);
+
+/* The record is lost: makes a new one from the arena's words and `start`, its address modulo 4,096 (0 is the one start that
+ * set-up knows). The lent record is written, not read. Granted exactly when heads, flags, the sizes behind free chunks and
+ * the foot word are those of a sound arena: free chunks go into their bins from the lowest up, no spare chunk is kept, live
+ * blocks keep their place and words. Refused with 2, or with 1 for a word count or a start that set-up refuses, it writes the
+ * empty record, as set-up does, and no word of the arena. */
+uint64_t nuka_rebuild(uint64_t *rec, size_t rec_words, uint64_t *arena, size_t words, uint64_t *out, size_t out_words,
+                      uint64_t start);
 
 /* A block of at least so many bytes, aligned to 16; the value is its offset. Refusals 1, 2, 4, 6. */
 uint64_t nuka_malloc(uint64_t *rec, size_t rec_words, uint64_t *arena, size_t words, uint64_t *out, size_t out_words,

@@ -59,7 +59,7 @@ for edit in ../crates/*/must-fail/*.edit; do
     crate=${edit#../crates/}
     crate=${crate%%/*}
     case " ${*:-$crate} " in *" $crate "*) ;; *) continue ;; esac
-    # an edit of specs changes no code
-    if grep -q '^file: src/' "$edit" && ! grep -q '^file: specs/' "$edit"; then one "$crate" "$edit"; fi
+    # an edit of specs alone changes no code
+    if grep -q '^file: src/' "$edit"; then one "$crate" "$edit"; fi
 done
 echo "$found edits found, $unseen not seen"

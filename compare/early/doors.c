@@ -7,6 +7,7 @@ struct slice {
 };
 
 number setup(struct slice *, struct slice *, struct slice *) __asm__("abi::nuka_setup");
+number rebuild(struct slice *, struct slice *, struct slice *, number) __asm__("abi::nuka_rebuild");
 number take(struct slice *, struct slice *, struct slice *, number) __asm__("abi::nuka_malloc");
 number give(struct slice *, struct slice *, struct slice *, number) __asm__("abi::nuka_free");
 number resize(struct slice *, struct slice *, struct slice *, number, number) __asm__("abi::nuka_realloc");
@@ -20,6 +21,11 @@ number sound(struct slice *, struct slice *) __asm__("abi::nuka_sound");
 number nuka_setup(LENT) {
     SLICES;
     return setup(&r, &a, &o);
+}
+
+number nuka_rebuild(LENT, number start) {
+    SLICES;
+    return rebuild(&r, &a, &o, start);
 }
 
 number nuka_malloc(LENT, number bytes) {

@@ -3,6 +3,7 @@ use crate::history::Rng;
 use crate::library::{Library, Ours, RECORD_WORDS};
 use crate::oracle::{NONE, ROOT};
 use crate::reading;
+use crate::rebuilt;
 use crate::steps::Ask;
 use crate::whole;
 use std::fmt;
@@ -38,13 +39,16 @@ pub fn changed(state: &Ours, changes: &[Change]) -> Ours {
     state
 }
 
-/// What was found of a pair: whether it is sound, and how many calls were asked about it.
+/// What was found of a pair, and how many calls were asked about it.
 pub struct Found {
     pub sound: bool,
+    /// a new record was made from its words
+    pub rebuilt: bool,
     pub calls: u64,
 }
 
-/// The library's check says what the reading says, and every call answers 2 exactly then and changes nothing.
+/// The library's check says what the reading says, and every call answers 2 exactly then and changes nothing. A rebuild is
+/// granted exactly where the reading finds a tiling.
 pub fn judge(lib: &dyn Library, state: &Ours) -> Result<Found, String> {
     let sound = reading::sound(&state.record, &state.words);
     let expected = if sound { 0 } else { 2 };
@@ -79,8 +83,15 @@ pub fn judge(lib: &dyn Library, state: &Ours) -> Result<Found, String> {
             return Err(format!("{ask}: {answer}, but record or arena changed"));
         }
     }
+    after.clone_from(state);
+    let (answer, _) = rebuilt::rebuild(lib, &mut after, 0)?;
+    after.clone_from(state);
     odd_count(lib, &mut after)?;
-    Ok(Found { sound, calls: 9 })
+    Ok(Found {
+        sound,
+        rebuilt: answer.number == 0,
+        calls: 10,
+    })
 }
 
 /// Whatever the record is, with a word count that isn't allowed the answer is 1.

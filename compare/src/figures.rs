@@ -19,11 +19,13 @@ pub struct Figures {
     moved: u64,
     frees: u64,
     usable: u64,
+    rebuilds: u64,
     /// by number
     refusals: [u64; 7],
     writes: u64,
     pairs: u64,
     sound_pairs: u64,
+    rebuilt_pairs: u64,
     pair_calls: u64,
 }
 
@@ -44,8 +46,13 @@ impl Figures {
             self.refusals[answer.number as usize] += 1;
             return;
         }
-        let Step::Ask(ask) = step else {
-            return;
+        let ask = match step {
+            Step::Ask(ask) => ask,
+            Step::Rebuild(_) => {
+                self.rebuilds += 1;
+                return;
+            }
+            _ => return,
         };
         match ask {
             Ask::Malloc(_) => self.malloc += 1,
@@ -62,6 +69,7 @@ impl Figures {
     pub fn judged(&mut self, found: &Found) {
         self.pairs += 1;
         self.sound_pairs += u64::from(found.sound);
+        self.rebuilt_pairs += u64::from(found.rebuilt);
         self.pair_calls += found.calls;
     }
 
@@ -70,7 +78,8 @@ impl Figures {
     }
 
     pub fn calls(&self) -> u64 {
-        self.grants() + self.frees + self.usable + self.refusals.iter().sum::<u64>()
+        let told = self.frees + self.usable + self.rebuilds;
+        self.grants() + told + self.refusals.iter().sum::<u64>()
     }
 }
 
@@ -90,12 +99,14 @@ impl fmt::Display for Figures {
         row("- memalign", self.memalign)?;
         row("frees", self.frees)?;
         row("usable bytes told", self.usable)?;
+        row("rebuilds", self.rebuilds)?;
         for number in 1..7 {
             row(&format!("refusal {number}"), self.refusals[number])?;
         }
         row("owners' writes", self.writes)?;
         row("damaged and made-up pairs", self.pairs)?;
         row("- of these sound", self.sound_pairs)?;
+        row("- of these rebuilt from their words", self.rebuilt_pairs)?;
         row("- calls on them", self.pair_calls)?;
         row("differences", 0)
     }

@@ -37,15 +37,19 @@ fn due(ours: &Ours, lent: Lent) -> Option<u64> {
 
 /// Such a call answers as it should, and nothing else changes than what the refusal says.
 pub fn refused(lib: &dyn Library, ours: &Ours, step: Step) -> Result<Answer, String> {
-    let (Step::AskLent(lent, _) | Step::SetUp(lent) | Step::Sound(lent)) = step else {
+    let (Step::AskLent(lent, _) | Step::RebuildLent(lent) | Step::SetUp(lent) | Step::Sound(lent)) =
+        step
+    else {
         return Ok(Answer::granted(0));
     };
     let Some(number) = due(ours, lent) else {
         return Ok(Answer::granted(0));
     };
-    // set-up has no record to be another's, and the check writes no answer
+    // set-up and rebuild have no record to be another's, and the check writes no answer
     match (step, lent) {
-        (Step::SetUp(_), Lent::Words(_)) if number == 2 => return Ok(Answer::granted(0)),
+        (Step::SetUp(_) | Step::RebuildLent(_), Lent::Words(_)) if number == 2 => {
+            return Ok(Answer::granted(0))
+        }
         (Step::Sound(_), Lent::Out(_)) => return Ok(Answer::granted(0)),
         _ => {}
     }
@@ -56,13 +60,14 @@ pub fn refused(lib: &dyn Library, ours: &Ours, step: Step) -> Result<Answer, Str
             Step::Sound(_) => {}
             _ => expected.out = vec![number, 0],
         }
-        if let Step::SetUp(_) = step {
+        if let Step::SetUp(_) | Step::RebuildLent(_) = step {
             expected.record = empty_record().to_vec();
         }
     }
     let Parts { record, words, out } = &mut parts;
     let returned = match step {
         Step::AskLent(_, ask) => lib.ask(ask, record, words, out),
+        Step::RebuildLent(_) => lib.rebuild(record, words, out, 0),
         Step::SetUp(_) => lib.setup(record, words, out),
         _ => lib.sound(record, words),
     };

@@ -37,6 +37,8 @@ mod raw;
 #[cfg(crate_there)]
 pub mod reading;
 #[cfg(crate_there)]
+pub mod rebuilt;
+#[cfg(crate_there)]
 pub mod record;
 #[cfg(crate_there)]
 pub mod rng;

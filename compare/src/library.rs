@@ -1,6 +1,6 @@
 //! Our library: its calls, and a record and words that they are given.
 use crate::oracle::NONE;
-use crate::steps::Ask;
+use crate::steps::{word, Ask};
 use std::fmt;
 
 pub const RECORD_WORDS: usize = 72;
@@ -11,6 +11,7 @@ const UNWRITTEN: u64 = 0x756e_7772;
 pub trait Library {
     fn setup(&self, rec: &mut [u64], words: &mut [u64], out: &mut [u64]) -> u64;
     fn ask(&self, ask: Ask, rec: &mut [u64], words: &mut [u64], out: &mut [u64]) -> u64;
+    fn rebuild(&self, rec: &mut [u64], words: &mut [u64], out: &mut [u64], start: u64) -> u64;
     fn sound(&self, rec: &[u64], words: &[u64]) -> u64;
 }
 
@@ -32,6 +33,10 @@ impl Library for Linked {
             Ask::Memalign(a, n) => crate::raw::memalign(rec, words, out, a, n),
             Ask::Usable(off) => crate::raw::usable(rec, words, out, off),
         }
+    }
+
+    fn rebuild(&self, rec: &mut [u64], words: &mut [u64], out: &mut [u64], start: u64) -> u64 {
+        crate::raw::rebuild(rec, words, out, start)
     }
 
     fn sound(&self, rec: &[u64], words: &[u64]) -> u64 {
@@ -114,6 +119,21 @@ impl Ours {
         let [number, value] = out;
         if returned != number {
             return Err(format!("{ask}: returned {returned}, but wrote {number}"));
+        }
+        Ok(Answer { number, value })
+    }
+
+    /// The record is made anew from the words; what stands in it before is anything.
+    pub fn rebuild(&mut self, lib: &dyn Library, start: u64) -> Result<Answer, String> {
+        let bytes = self.words.len() as u64 * 8;
+        for (i, lost) in self.record.iter_mut().enumerate() {
+            *lost = word(self.words[i % self.words.len()], i as u64, bytes);
+        }
+        let mut out = [UNWRITTEN; 2];
+        let returned = lib.rebuild(&mut self.record, &mut self.words, &mut out, start);
+        let [number, value] = out;
+        if returned != number || value != 0 {
+            return Err(format!("rebuild: returned {returned}, but wrote {out:?}"));
         }
         Ok(Answer { number, value })
     }

@@ -109,6 +109,10 @@ fn history(lib: &dyn Library, setting: Setting, figures: &mut Figures) -> Result
             let step = probes::probe(&mut rng, &pair);
             take(&mut pair, &mut case, figures, step)?;
         }
+        // every second history meets rebuilds, after two calls of five
+        if setting.seed % 4 < 2 && rng.chance(40) {
+            take(&mut pair, &mut case, figures, probes::rebuild(&mut rng))?;
+        }
         if rng.chance(4) {
             damaged(lib, &pair, &mut case, &mut rng, figures)?;
         }

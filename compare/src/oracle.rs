@@ -103,6 +103,19 @@ impl Oracle {
         Oracle { heap, base, layout }
     }
 
+    /// The crate on a fresh region over these words: every chunk but the top taken in address order, then the free ones
+    /// given back from the lowest up. Owners' words are as they were.
+    pub fn in_order(words: &[u64], chunks: &[Chunk]) -> Oracle {
+        let mut oracle = Oracle::filled(words.len(), |k| words[k]);
+        for chunk in chunks {
+            assert_eq!(oracle.malloc(chunk.size - 8), Some(chunk.offset + 16));
+        }
+        for chunk in chunks.iter().filter(|c| !c.used) {
+            oracle.free(chunk.offset + 16);
+        }
+        oracle
+    }
+
     /// The crate in a sound state of ours, as if its own calls had led there.
     pub fn holding(ours: &Ours) -> Oracle {
         let mut oracle = Oracle::new(ours.words.len());

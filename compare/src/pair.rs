@@ -3,6 +3,7 @@ use crate::lent;
 use crate::library::{fresh_record, Answer, Library, Ours};
 use crate::look;
 use crate::oracle::Oracle;
+use crate::rebuilt;
 use crate::steps::{word, Ask, Step};
 
 pub struct Pair<'a> {
@@ -59,7 +60,8 @@ impl<'a> Pair<'a> {
     pub fn step(&mut self, step: Step) -> Result<Option<Answer>, String> {
         match step {
             Step::Ask(ask) => self.ask(ask).map(Some),
-            Step::AskLent(..) | Step::SetUp(_) | Step::Sound(_) => {
+            Step::Rebuild(start) => self.rebuild(start).map(Some),
+            Step::AskLent(..) | Step::RebuildLent(_) | Step::SetUp(_) | Step::Sound(_) => {
                 lent::refused(self.lib, &self.ours, step).map(Some)
             }
             Step::Write(k, value) => {
@@ -166,12 +168,30 @@ impl<'a> Pair<'a> {
         self.settle(ask, answer);
         look::differs(&self.heap, &self.ours, &self.live)
             .map_err(|what| format!("after {ask}: {answer}, {what}"))?;
+        self.fresh_at_last(Step::Ask(ask))?;
+        Ok(answer)
+    }
+
+    /// The record is made anew, and the crate goes on from the rebuilt state. The blocks are those of before.
+    fn rebuild(&mut self, start: u64) -> Result<Answer, String> {
+        let (answer, heap) = rebuilt::rebuild(self.lib, &mut self.ours, start)?;
+        if let Some(heap) = heap {
+            self.heap = heap;
+        }
+        look::differs(&self.heap, &self.ours, &self.live)
+            .map_err(|what| format!("after the rebuild: {answer}, {what}"))?;
+        self.fresh_at_last(Step::Rebuild(start))?;
+        Ok(answer)
+    }
+
+    /// With no block left the record is the fresh one.
+    fn fresh_at_last(&self, step: Step) -> Result<(), String> {
         if self.blocks == 0 && self.ours.record != fresh_record(self.heap.bytes()) {
             return Err(format!(
-                "after {ask}: all is given back, but the record is not fresh"
+                "after {step}: all is given back, but the record is not fresh"
             ));
         }
-        Ok(answer)
+        Ok(())
     }
 
     /// Keeps which blocks are live.

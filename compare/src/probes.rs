@@ -41,9 +41,19 @@ pub fn probe(rng: &mut Rng, pair: &Pair) -> Step {
         }
         _ => {
             let lent = lent(rng, bytes as usize / 8);
-            rng.pick(&[Step::SetUp(lent), Step::Sound(lent)])
+            rng.pick(&[
+                Step::SetUp(lent),
+                Step::Sound(lent),
+                Step::RebuildLent(lent),
+            ])
         }
     }
+}
+
+/// The rebuild, now and then with a start that set-up refuses.
+pub fn rebuild(rng: &mut Rng) -> Step {
+    let other = rng.pick(&[1, 8, 16, 4080, 4096, 1 << 32, u64::MAX]);
+    Step::Rebuild(if rng.chance(5) { other } else { 0 })
 }
 
 /// Any call, of a block.

@@ -1,5 +1,5 @@
 //! Document 01's "Sound", read from its text and written down plainly, without a look at the library's own check.
-use crate::oracle::{NONE, ROOT};
+use crate::oracle::{Chunk, NONE, ROOT};
 use std::collections::BTreeMap;
 
 const PINUSE: u64 = 1;
@@ -32,6 +32,55 @@ pub fn sound(record: &[u64], words: &[u64]) -> bool {
     heap.chunks_ok() && heap.spare_ok() && heap.bins_ok() && heap.unplaced.is_empty()
 }
 
+/// What the first two points of "Sound" tell of words alone: the chunks but the top, in address order, and the top.
+pub struct Tiling {
+    pub chunks: Vec<Chunk>,
+    pub top: u64,
+    pub topsize: u64,
+}
+
+/// The tiling of an arena of an allowed word count. The top is the free chunk that ends 80 bytes before the arena's end.
+pub fn tiling(words: &[u64]) -> Option<Tiling> {
+    let end = words.len() as u64 * 8 - 80;
+    let word = |chunk: u64, k: u64| words[(chunk / 8 + k) as usize];
+    let (mut at, mut chunks) = (0, Vec::new());
+    // the first chunk has PINUSE, as if a used one came before it
+    let mut before = Chunk {
+        offset: 0,
+        size: 0,
+        used: true,
+    };
+    while at < end {
+        let head = word(at, 1);
+        let (size, used) = (size_of(head)?, head & CINUSE != 0);
+        if size > end - at || (head & PINUSE != 0) != before.used {
+            return None;
+        }
+        if !before.used && (!used || word(at, 0) != before.size) {
+            return None;
+        }
+        if !used && at + size == end {
+            let foot_word = words[(end + 8) as usize / 8] == 80;
+            return (size >= 16 && foot_word).then_some(Tiling {
+                chunks,
+                top: at,
+                topsize: size,
+            });
+        }
+        if size < 32 {
+            return None;
+        }
+        before = Chunk {
+            offset: at,
+            size,
+            used,
+        };
+        chunks.push(before);
+        at += size;
+    }
+    None
+}
+
 /// The size that a head tells, if it is a multiple of 16 and the bit worth 4 is clear.
 fn size_of(head: u64) -> Option<u64> {
     let size = head - head % 8;
@@ -43,51 +92,14 @@ impl Heap<'_> {
         self.words[(chunk / 8 + k) as usize]
     }
 
-    /// Tiling, flags, feet, no two free neighbours, the top and the foot word. Collects the free chunks.
+    /// Tiling, flags, feet, no two free neighbours, the foot word, and the record's top. Collects the free chunks.
     fn chunks_ok(&mut self) -> bool {
-        let length = self.record[6];
-        let (top, topsize, end) = (self.record[4], self.record[5], length - 80);
-        let mut at = 0;
-        // the first chunk has PINUSE, as if a used one came before it
-        let mut before_used = true;
-        // the size of the chunk before, where that is free
-        let mut free_before = None;
-        while at != top {
-            if at >= end {
-                return false;
-            }
-            let head = self.word(at, 1);
-            let Some(size) = size_of(head) else {
-                return false;
-            };
-            let used = head & CINUSE != 0;
-            if size < 32 || size > end - at || (head & PINUSE != 0) != before_used {
-                return false;
-            }
-            if free_before.is_some_and(|s| self.word(at, 0) != s) {
-                return false;
-            }
-            if !used && !before_used {
-                return false;
-            }
-            if !used {
-                self.unplaced.insert(at, size);
-            }
-            free_before = (!used).then_some(size);
-            before_used = used;
-            at += size;
-        }
-        // the top counts as free, so what comes before it is in use
-        if at >= end || !before_used {
+        let Some(told) = tiling(self.words) else {
             return false;
-        }
-        let head = self.word(top, 1);
-        head & CINUSE == 0
-            && head & PINUSE != 0
-            && size_of(head) == Some(topsize)
-            && topsize >= 16
-            && topsize == end - top
-            && self.words[(length - 72) as usize / 8] == 80
+        };
+        let free = told.chunks.iter().filter(|c| !c.used);
+        self.unplaced = free.map(|c| (c.offset, c.size)).collect();
+        self.record[4] == told.top && self.record[5] == told.topsize
     }
 
     /// `dv` is a free chunk with its true size, or there is none and `dvsize` is 0.

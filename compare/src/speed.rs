@@ -1,5 +1,6 @@
 //! Nanoseconds a call: our checked calls, through the C functions, beside the crate's, on heaps of 10, 100 and 1,000 live
-//! blocks of mixed sizes. Both get the same calls in the same order, in turn, and give the same answers.
+//! blocks of mixed sizes. Both get the same calls in the same order, in turn, and give the same answers. And nanoseconds a
+//! chunk for a rebuild.
 use crate::figures::grouped;
 use crate::history::{Call, Rng};
 use crate::library::{Library, Linked, Ours};
@@ -67,6 +68,51 @@ pub fn run() {
             );
         }
     }
+    rebuilds();
+}
+
+/// Nanoseconds a chunk of a rebuild, on whole arenas.
+fn rebuilds() {
+    println!("\nnanoseconds a chunk, rebuild, the best and the middle of {ROUNDS} rounds");
+    println!("| heap | chunks | best | middle |");
+    println!("|---|---|---|---|");
+    let none = |_: usize| false;
+    let second = |k: usize| k % 2 == 1;
+    heap_rebuilt("all in use, 32 bytes each", 24, none);
+    heap_rebuilt("half free in one small bin, 32 bytes each", 24, second);
+    heap_rebuilt("half free in one ring, 272 bytes each", 264, second);
+    heap_rebuilt("half free in trees, 256 to 1,264 bytes", 0, second);
+}
+
+/// An arena full of blocks of so many bytes, or of mixed large ones, of which some are given back.
+fn heap_rebuilt(name: &str, bytes: u64, given_back: impl Fn(usize) -> bool) {
+    let mut heap = Ours::fresh(&Linked, vec![0; WORDS]).unwrap();
+    let mut rng = Rng::new(1);
+    let mut blocks = Vec::new();
+    let mut size = || match bytes {
+        0 => 248 + 16 * rng.below(64),
+        _ => bytes,
+    };
+    while let Some(block) = heap.call(Call::Malloc(size())) {
+        blocks.push(block);
+    }
+    let chunks = blocks.len() as f64;
+    for (k, block) in blocks.iter().enumerate() {
+        // the last one stays, so that the top does not grow
+        if given_back(k) && k + 1 < blocks.len() {
+            heap.call(Call::Free(*block));
+        }
+    }
+    let mut times = Vec::new();
+    for _ in 0..ROUNDS {
+        let mut out = [0; 2];
+        let start = Instant::now();
+        let number = Linked.rebuild(&mut heap.record, &mut heap.words, &mut out, 0);
+        times.push(start.elapsed().as_nanos() as f64 / chunks);
+        assert_eq!(number, 0);
+    }
+    let best = times.iter().copied().fold(f64::MAX, f64::min);
+    println!("| {name} | {chunks} | {best:.1} | {:.1} |", middle(times));
 }
 
 /// The middle of the rounds, ours and the crate's.

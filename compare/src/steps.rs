@@ -27,6 +27,10 @@ pub enum Lent {
 pub enum Step {
     Ask(Ask),
     AskLent(Lent, Ask),
+    /// the record is lost and made anew, with this start
+    Rebuild(u64),
+    /// the same with what doesn't fit
+    RebuildLent(Lent),
     /// set-up with what doesn't fit
     SetUp(Lent),
     /// the check with what doesn't fit
@@ -44,6 +48,7 @@ impl Step {
             Step::Ask(ask) => Step::Ask(ask.of_block(other)),
             Step::AskLent(lent, ask) => Step::AskLent(lent, ask.of_block(other)),
             Step::Fill(block, seed) => Step::Fill(other(block), seed),
+            Step::Rebuild(_) | Step::RebuildLent(_) => self,
             Step::SetUp(_) | Step::Sound(_) | Step::Write(..) => self,
         }
     }
@@ -122,6 +127,8 @@ impl fmt::Display for Step {
         match self {
             Step::Ask(ask) => write!(f, "{ask}"),
             Step::AskLent(lent, ask) => write!(f, "{ask}, {lent}"),
+            Step::Rebuild(start) => write!(f, "rebuild, start {start}"),
+            Step::RebuildLent(lent) => write!(f, "rebuild, {lent}"),
             Step::SetUp(lent) => write!(f, "set-up, {lent}"),
             Step::Sound(lent) => write!(f, "the check, {lent}"),
             Step::Write(k, value) => write!(f, "the owner of word {k} writes {value}"),

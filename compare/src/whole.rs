@@ -13,7 +13,7 @@ struct Base<'a> {
 /// One of the changes; none where the state has nothing for it.
 pub fn change(rng: &mut Rng, state: &Ours, places: &Places) -> Vec<Change> {
     let base = Base { state, places };
-    match rng.below(14) {
+    match rng.below(15) {
         0 => base.children_change_sides(rng),
         1 => base.bin_moves(rng),
         2 => base.spare_forgotten(),
@@ -26,6 +26,7 @@ pub fn change(rng: &mut Rng, state: &Ours, places: &Places) -> Vec<Change> {
         10 => base.top_ends_early(rng),
         11 => base.equal_size_below(rng),
         12 => base.spare_told_off_its_place(rng),
+        13 => base.last_becomes_spare(rng),
         _ => base.small_in_a_tree(rng),
     }
     .unwrap_or_default()
@@ -121,6 +122,19 @@ impl Base<'_> {
             set(chunk, 1, size + says),
             set(next, 1, self.word(next, 1) & !1),
             set(next, 0, size),
+            Change::Record(2, chunk),
+            Change::Record(3, size),
+        ])
+    }
+
+    /// The chunk before the top becomes the spare one; half the time the top's head still says that it is used.
+    fn last_becomes_spare(&self, rng: &mut Rng) -> Option<Vec<Change>> {
+        let chunk = *self.places.chunks.last()?;
+        let (size, top) = (self.size(chunk), self.state.record[4]);
+        Some(vec![
+            set(chunk, 1, size + (self.word(chunk, 1) & 1)),
+            set(top, 1, self.word(top, 1) & !1 | rng.below(2)),
+            set(top, 0, size),
             Change::Record(2, chunk),
             Change::Record(3, size),
         ])

@@ -35,6 +35,10 @@ impl Library for Wrong {
         out[0]
     }
 
+    fn rebuild(&self, rec: &mut [u64], words: &mut [u64], out: &mut [u64], start: u64) -> u64 {
+        Linked.rebuild(rec, words, out, start)
+    }
+
     fn sound(&self, rec: &[u64], words: &[u64]) -> u64 {
         Linked.sound(rec, words)
     }
@@ -129,6 +133,10 @@ impl Library for Blind {
         Linked.ask(ask, rec, words, out)
     }
 
+    fn rebuild(&self, rec: &mut [u64], words: &mut [u64], out: &mut [u64], start: u64) -> u64 {
+        Linked.rebuild(rec, words, out, start)
+    }
+
     fn sound(&self, rec: &[u64], words: &[u64]) -> u64 {
         // the spare chunk's size is taken to be true
         let mut rec = rec.to_vec();
@@ -146,4 +154,82 @@ impl Library for Blind {
 fn a_blind_check() {
     let lines = found(&Blind, "the check says 0, the reading 2");
     assert!(lines <= 8);
+}
+
+type Rebuilt = fn(&mut [u64], &mut [u64], &mut [u64]);
+
+/// The linked library with something changed behind its back after each rebuild.
+struct WrongRebuild {
+    after: Rebuilt,
+}
+
+impl Library for WrongRebuild {
+    fn setup(&self, rec: &mut [u64], words: &mut [u64], out: &mut [u64]) -> u64 {
+        Linked.setup(rec, words, out)
+    }
+
+    fn ask(&self, ask: Ask, rec: &mut [u64], words: &mut [u64], out: &mut [u64]) -> u64 {
+        Linked.ask(ask, rec, words, out)
+    }
+
+    fn rebuild(&self, rec: &mut [u64], words: &mut [u64], out: &mut [u64], start: u64) -> u64 {
+        let returned = Linked.rebuild(rec, words, out, start);
+        if rec.len() == 72 && out.len() == 2 {
+            (self.after)(rec, words, out);
+            return out[0];
+        }
+        returned
+    }
+
+    fn sound(&self, rec: &[u64], words: &[u64]) -> u64 {
+        Linked.sound(rec, words)
+    }
+}
+
+#[test]
+fn a_rebuild_that_makes_a_spare_chunk() {
+    // the only chunk of a small bin
+    let after: Rebuilt = |rec, words, out| {
+        let lone =
+            |bin: &usize| rec[8 + bin] != NONE && words[rec[8 + bin] as usize / 8 + 2] == NONE;
+        if let (0, Some(bin)) = (out[0], (0..32).find(lone)) {
+            (rec[2], rec[3]) = (rec[8 + bin], 8 * bin as u64);
+            rec[8 + bin] = NONE;
+            rec[0] ^= 1 << bin;
+        }
+    };
+    let steps = found(&WrongRebuild { after }, "after the rebuild, the record's");
+    assert!(steps <= 4);
+}
+
+#[test]
+fn a_rebuild_in_another_order() {
+    // two chunks of a small bin change places
+    let after: Rebuilt = |rec, words, out| {
+        let at = |chunk: u64, k: usize| chunk as usize / 8 + k;
+        let two = |bin: &usize| {
+            let newest = rec[8 + bin];
+            newest != NONE && words[at(newest, 2)] != NONE && {
+                words[at(words[at(newest, 2)], 2)] == NONE
+            }
+        };
+        if let (0, Some(bin)) = (out[0], (0..32).find(two)) {
+            let (new, old) = (rec[8 + bin], words[at(rec[8 + bin], 2)]);
+            rec[8 + bin] = old;
+            (words[at(old, 2)], words[at(old, 3)]) = (new, NONE);
+            (words[at(new, 2)], words[at(new, 3)]) = (NONE, old);
+        }
+    };
+    let steps = found(&WrongRebuild { after }, "after the rebuild, the record's");
+    assert!(steps <= 9);
+}
+
+#[test]
+fn a_refused_rebuild_that_writes() {
+    let after: Rebuilt = |_, words, out| {
+        if out[0] == 2 {
+            words[0] ^= 1;
+        }
+    };
+    found(&WrongRebuild { after }, "but not the empty record alone");
 }

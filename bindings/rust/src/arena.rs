@@ -32,6 +32,19 @@ impl Arena {
         Arena { record, words }
     }
 
+    /// The record is lost: makes a new one from the words and their start, the address modulo 4,096, which is 0 in any
+    /// arena of this version. Live blocks keep their place and words. Where the words are no sound arena's, or the count
+    /// or the start is refused, it hands them back as they were.
+    pub fn rebuild(words: Vec<u64>, start: u64) -> Result<Arena, (Refusal, Vec<u64>)> {
+        let mut arena = Arena::from_parts([0; RECORD_WORDS], words);
+        let mut out = [0; 2];
+        raw::rebuild(&mut arena.record, &mut arena.words, &mut out, start);
+        match Refusal::or(out) {
+            Ok(_) => Ok(arena),
+            Err(why) => Err((why, arena.words)),
+        }
+    }
+
     /// The record and the words, for a later [`Arena::from_parts`].
     pub fn into_parts(self) -> ([u64; RECORD_WORDS], Vec<u64>) {
         (self.record, self.words)

@@ -11,6 +11,15 @@ mod c {
             out: *mut u64,
             out_words: usize,
         ) -> u64;
+        pub fn nuka_rebuild(
+            rec: *mut u64,
+            rec_words: usize,
+            arena: *mut u64,
+            words: usize,
+            out: *mut u64,
+            out_words: usize,
+            start: u64,
+        ) -> u64;
         pub fn nuka_malloc(
             rec: *mut u64,
             rec_words: usize,
@@ -79,6 +88,10 @@ macro_rules! call {
 
 pub fn setup(rec: &mut [u64], arena: &mut [u64], out: &mut [u64]) -> u64 {
     call!(nuka_setup, rec, arena, out)
+}
+
+pub fn rebuild(rec: &mut [u64], arena: &mut [u64], out: &mut [u64], start: u64) -> u64 {
+    call!(nuka_rebuild, rec, arena, out, start)
 }
 
 pub fn malloc(rec: &mut [u64], arena: &mut [u64], out: &mut [u64], bytes: u64) -> u64 {

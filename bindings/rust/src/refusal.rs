@@ -3,7 +3,7 @@ use std::fmt;
 
 #[derive(Clone, Copy, Debug, PartialEq, Eq)]
 pub enum Refusal {
-    /// the word count is odd, below 16 or above 8,192
+    /// the word count is odd, below 16 or above 8,192; of a rebuild also: a start that set-up refuses
     WordCount,
     /// record and arena are not sound, or not a pair
     NotSound,

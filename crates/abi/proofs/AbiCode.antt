@@ -17,9 +17,9 @@ use Rattle.calls.specs.Counts.{count-allowed}
 use Rattle.calls.specs.CallBytes.{told, refusal, callB}
 use Rattle.holds.specs.Holds.{Control}
 use Rattle.calls.specs.Record.{reads, image}
-use Rattle.calls.specs.ByValue.{ends, setUpA}
+use Rattle.calls.specs.ByValue.{ends, setUpA, rebuildA}
 use Rattle.calls.specs.RecordLaws.{reads-all}
-use Rattle.abi.specs.Words.{said, valueOf, outOf, lentOk, copied, oddRecord, tellC, callC, setC, setUpC, soundC}
+use Rattle.abi.specs.Words.{said, valueOf, outOf, lentOk, copied, oddRecord, tellC, callC, setC, setUpC, rebuildC, soundC}
 
 -- ---- what was lent
 
@@ -129,6 +129,16 @@ module _ (r w out : List ℕ) {x : Bool} (e : x ≡ lentOk (length r) (length ou
   unfolding setUpC
   setup-said t a d w′ c i p v q =
       said-same w′ p (v ∙ ap copied i) q ∙ ap (setC out) c ∙ sym (rw (sym e ∙ t) refl)
+
+  module _ (start : ℕ) where
+    pub rebuild-lost : x ≡ false → said 2 r w out ≡ rebuildC r w out start
+    unfolding rebuildC
+    rebuild-lost q = sym (rw (sym e ∙ q) refl)
+
+    pub rebuild-said : x ≡ true → (a : Answer) (d : Control) (w′ : List ℕ) {n : ℕ} {m o v : List ℕ} → ends a d w′ ≡ rebuildA wide w start
+        → m ≡ image d → n ≡ refusal a → v ≡ copied m → o ≡ outOf out a → said n v w′ o ≡ rebuildC r w out start
+    unfolding rebuildC
+    rebuild-said t a d w′ c i p v q = said-same w′ p (v ∙ ap copied i) q ∙ ap (setC out) c ∙ sym (rw (sym e ∙ t) refl)
 
 -- ---- the check
 

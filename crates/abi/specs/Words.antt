@@ -11,7 +11,7 @@ use Rattle.rules.specs.Calls.{Call, Reason, bad-count, unsound, bad-alignment, 
 use Rattle.sound.specs.SoundBytes.{soundB}
 use Rattle.calls.specs.CallBytes.{Told, refusal, callB}
 use Rattle.calls.specs.Record.{reads, image}
-use Rattle.calls.specs.ByValue.{Ends, setUpA}
+use Rattle.calls.specs.ByValue.{Ends, setUpA, rebuildA}
 
 -- the number returned, the record's words, the arena's, the answer's
 pub record Said : Type 0 where
@@ -69,6 +69,10 @@ setC out t = said (refusal (t .answer)) (copied (image (t .control))) (t .words)
 
 unfoldable pub setUpC : List ℕ → List ℕ → List ℕ → Said
 setUpC r w out = pick (lentOk (length r) (length out)) (setC out (setUpA wide w)) (said 2 r w out)
+
+-- the rebuild: the record that was lent is not read
+unfoldable pub rebuildC : List ℕ → List ℕ → List ℕ → ℕ → Said
+rebuildC r w out start = pick (lentOk (length r) (length out)) (setC out (rebuildA wide w start)) (said 2 r w out)
 
 -- 0 for a sound pair, else the number of the refusal that every call would give
 unfoldable pub soundC : List ℕ → List ℕ → ℕ

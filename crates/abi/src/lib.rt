@@ -9,7 +9,7 @@ ghost use Rattle.rules.specs.Calls.{Malloc, Free, Realloc, Memalign, Usable};
 ghost use Rattle.calls.specs.Record.{reads};
 ghost use Rattle.arena.specs.Answers.{answerOf};
 ghost use Rattle.calls.specs.CallBytes.{refusal};
-ghost use Rattle.abi.specs.Words.{lentOk, copied, said, outOf, callC, setUpC, soundC};
+ghost use Rattle.abi.specs.Words.{lentOk, copied, said, outOf, callC, setUpC, rebuildC, soundC};
 use crate::answer::odd_record;
 use crate::answer::tell;
 use arena::answers::Answer;
@@ -80,6 +80,21 @@ pub extern "C" fn nuka_setup(rec: &mut [u64], w: &mut [u64], out: &mut [u64]) ->
         return 2;
     }
     let x = arena::setup(w);
+    let c = x.control;
+    let a = x.answer;
+    hand_out(rec, image_of(c), out, a)
+}
+
+// The record that was lent is written, not read.
+#[no_mangle]
+pub extern "C" fn nuka_rebuild(rec: &mut [u64], w: &mut [u64], out: &mut [u64], start: u64) -> u64
+    ensures { λ x. ⌜ said x (now (rec .exit)) (now (w .exit)) (now (out .exit))
+        ≡ rebuildC (now (rec .entry)) (now (w .entry)) (now (out .entry)) start ⌝ }
+{
+    if !lent_ok(rec.len(), out.len()) {
+        return 2;
+    }
+    let x = arena::rebuild(w, start);
     let c = x.control;
     let a = x.answer;
     hand_out(rec, image_of(c), out, a)

@@ -2,19 +2,20 @@
 use mathlib.Core.Bool.{Bool, true, false}
 use mathlib.Core.List.{List}
 use mathlib.Core.Path.{_≡_, refl, sym, ap, _∙_}
-use Prim.Native.Nat.{ℕ, _+_, _-_, _*_, _≤_}
+use Prim.Native.Nat.{ℕ, zero, suc, _+_, _-_, _*_, _≤_}
 use native.Mathlib.Omega.{arith}
 use lib.ListN.{length, getD, set}
 use Rattle.words.specs.Logic.{pick-case}
 use Rattle.words.specs.Edition.{wide, noLink}
-use Rattle.rules.specs.Calls.{Call, Usable, Answer, done, refused, bad-count, allowedCount}
+use Rattle.rules.specs.Calls.{Call, Usable, Answer, done, refused, bad-count, unsound, allowedCount}
 use Rattle.chunk.specs.declared.access.BlockOff.{BlockOff}
 use Rattle.lend.specs.LendBytes.{lent, lentFrom}
 use Rattle.holds.specs.Holds.{Control, freshControl}
 use Rattle.sound.specs.SoundBytes.{countOk, soundB, liveB}
 use Rattle.calls.specs.CallBytes.{Told, told, callB}
 use Rattle.calls.specs.Record.{image, numbersOf, emptyControl}
-use Rattle.calls.specs.ByValue.{ends, handedBack, heard, callA, setUpA}
+use Rattle.calls.specs.ByValue.{ends, handedBack, heard, callA, setUpA, rebuildSays, rebuildA}
+use Rattle.rebuild.specs.RebuildBytes.{Rebuilt, rebuilt, rebuildB}
 use Rattle.arena.specs.Answers.{answerOf}
 use Rattle.arena.specs.declared.answers.Answer as A
 use Rattle.arena.specs.declared.answers.Answer.the-variants.{Granted, Done, Bytes, Refused}
@@ -72,6 +73,28 @@ module _ (c : Control) (r : List ℕ) {a : A.Answer} where
 
   pub hand-refused : {y : Reason} → a ≡ Refused y → c ≡ handedBack (answerOf a) c r
   hand-refused p = sym (ap (λ z. handedBack (answerOf z) c r) p)
+
+-- ---- the rebuild
+
+pub says-done : {n : ℕ} → n ≡ 0 → done ≡ rebuildSays n
+says-done q = sym (ap rebuildSays q)
+
+pub says-count : {n : ℕ} → n ≡ 1 → refused bad-count ≡ rebuildSays n
+says-count q = sym (ap rebuildSays q)
+
+pub says-unsound : (n : ℕ) → (n ≡ 0 → ⊥) → (n ≡ 1 → ⊥) → refused unsound ≡ rebuildSays n
+says-unsound zero a b = absurd (a refl)
+says-unsound (suc zero) a b = absurd (b refl)
+says-unsound (suc (suc n)) a b = refl
+
+pub rebuild-ends : (w : List ℕ) (start : ℕ) {n : ℕ} {i v : List ℕ} {a : Answer} {d : Control} → rebuilt n i v ≡ rebuildB wide w start
+    → a ≡ rebuildSays n → d ≡ numbersOf i → ends a d v ≡ rebuildA wide w start
+unfolding rebuildA
+rebuild-ends w start {n} {i} {v} {a} {d} f q g =
+    ap (λ x. ends x d v) q ∙ ap (λ x. ends (rebuildSays n) x v) g
+    ∙ ap (λ (x : Rebuilt). ends (rebuildSays (x .refusal)) (numbersOf (x .image)) (x .words)) f
+
+pub ruleset rebuild-laws = (says-done, says-count, says-unsound, rebuild-ends)
 
 -- ---- lent
 

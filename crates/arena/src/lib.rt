@@ -1,4 +1,5 @@
-// The calls: set-up, malloc, free, realloc, memalign, usable, lend, for any record, arena and numbers. The record goes in and out by value.
+// The calls: set-up, malloc, free, realloc, memalign, usable, lend, rebuild, for any record, arena and numbers.
+// The record goes in and out by value.
 pub mod answers;
 pub mod control;
 pub mod on_image;
@@ -10,7 +11,7 @@ ghost use Rattle.words.specs.Edition.{wide};
 ghost use Rattle.rules.specs.Calls.{Malloc, Free, Realloc, Memalign, Usable};
 ghost use Rattle.lend.specs.LendBytes.{lent, lentFrom};
 ghost use Rattle.calls.specs.Record.{image};
-ghost use Rattle.calls.specs.ByValue.{ends, handedBack, callA, setUpA};
+ghost use Rattle.calls.specs.ByValue.{ends, handedBack, callA, setUpA, rebuildSays, rebuildA};
 ghost use Rattle.arena.specs.Record.{numbers};
 ghost use Rattle.arena.specs.Answers.{answerOf};
 use crate::answers::Answer;
@@ -117,4 +118,29 @@ pub fn lend<'a>(c: Control, w: &'a mut [u64], b: BlockOff) -> &'a mut [u64]
 {
     let r = image_of(c);
     lend::lend(&r, w, b)
+}
+
+// A refusal's number as an answer.
+fn rebuild_says(n: u64) -> Answer
+    ensures { λ x. ⌜ answerOf x ≡ rebuildSays n ⌝ }
+{
+    if n == 0 {
+        return Answer::Done;
+    }
+    if n == 1 {
+        return Answer::Refused(Reason::BadCount);
+    }
+    Answer::Refused(Reason::Unsound)
+}
+
+// The record is lost: a new one, from the arena's words and its start alone.
+pub fn rebuild(w: &mut [u64], start: u64) -> Reply
+    ensures { λ x. ⌜ ends (answerOf (x .answer)) (numbers (x .control)) (now (w .exit)) ≡ rebuildA wide (now (w .entry)) start ⌝ }
+{
+    let t = rebuild::rebuild(w, start);
+    let r = t.image;
+    Reply {
+        answer: rebuild_says(t.refusal),
+        control: control_of(&r),
+    }
 }

@@ -29,7 +29,8 @@ use Rattle.decides.specs.LiveLaws.{isSome, live-starts, live-is, usable-is}
 use Rattle.calls.specs.CallBytes.{Told, Still, coreCall, callB}
 use Rattle.calls.specs.Record.{image, numbersOf}
 use Rattle.calls.specs.RecordLaws.{image-top, decode-image, held-fits, held-image, held-read}
-use Rattle.calls.specs.ByValue.{Ends, handedBack, heard, callA}
+use Rattle.calls.specs.ByValue.{Ends, handedBack, heard, callA, rebuildA}
+use Rattle.calls.specs.Rebuilds.{remade, Remakes, rebuild-held}
 use Rattle.calls.specs.CallObeys.{Follows, call-obeys}
 
 -- the record and the arena between two calls
@@ -43,6 +44,7 @@ box c w = record { control = c; words = w }
 pub data Event : Type 0 where
   asks : Call → Event
   writes : ℕ → ℕ → ℕ → Event  -- the owner of the block at this offset puts, into its word k, the value v
+  rebuilds : Event  -- the record is lost, and made anew from the words
 
 -- word k of the live block at the offset; elsewhere it is no owner's write, and nothing happens
 abbrev pub writeB : Edition → Box → ℕ → ℕ → ℕ → List ℕ
@@ -51,27 +53,35 @@ writeB e s off k v = pick (liveB e (s .words) (s .control .top) off) (pick (ltb 
 abbrev pub asked : Edition → Box → Call → Box
 asked e s c = let t = callA e (s .control) (s .words) c in box (t .control) (t .words)
 
+-- the record is made anew, with the set-up's start
+abbrev pub remadeBox : Edition → Box → Box
+remadeBox e s = let t = rebuildA e (s .words) 0 in box (t .control) (t .words)
+
 -- what is left after all
 abbrev pub after : Edition → Box → List Event → Box
 after e s [] = s
 after e s (asks c ∷ es) = after e (asked e s c) es
 after e s (writes off k v ∷ es) = after e (box (s .control) (writeB e s off k v)) es
+after e s (rebuilds ∷ es) = after e (remadeBox e s) es
 
 abbrev pub answers : Edition → Box → List Event → List Answer
 answers e s [] = []
 answers e s (asks c ∷ es) = callA e (s .control) (s .words) c .answer ∷ answers e (asked e s c) es
 answers e s (writes off k v ∷ es) = answers e (box (s .control) (writeB e s off k v)) es
+answers e s (rebuilds ∷ es) = rebuildA e (s .words) 0 .answer ∷ answers e (remadeBox e s) es
 
 -- the same of the rules, on a heap in n words: an owner's writes are none of theirs
 abbrev pub heapAfter : Edition → ℕ → Heap → List Event → Heap
 heapAfter e n h [] = h
 heapAfter e n h (asks c ∷ es) = heapAfter e n (answerTo e n h c .heap) es
 heapAfter e n h (writes off k v ∷ es) = heapAfter e n h es
+heapAfter e n h (rebuilds ∷ es) = heapAfter e n (remade e h) es
 
 abbrev pub ruled : Edition → ℕ → Heap → List Event → List Answer
 ruled e n h [] = []
 ruled e n h (asks c ∷ es) = answerTo e n h c .answer ∷ ruled e n (answerTo e n h c .heap) es
 ruled e n h (writes off k v ∷ es) = ruled e n h es
+ruled e n h (rebuilds ∷ es) = done ∷ ruled e n (remade e h) es
 
 -- ---- one event
 
@@ -161,6 +171,10 @@ write-held e s h n off k v = rw (live-in e s h n off) (go (liveSize e 0 (h .chun
         (record { held = owner-writes e (s .control) (s .words) (set (s .words) (a .0 + 2 + k) v) h [] (a .0) t n (a .1) o; count = o .0 }))
         (λ z. stays)
 
+-- the rebuild, in an arena that is sound
+pub remade-held : (e : Edition) (s : Box) (h : Heap) → HeldIn e s h → Remakes e (s .words) (h .chunks) (h .top) (rebuildA e (s .words) 0)
+remade-held e s h n = rebuild-held e (s .control) (s .words) h n
+
 -- ---- histories
 
 pub record Goes (e : Edition) (s : Box) (h : Heap) (es : List Event) : Type 0 where
@@ -180,6 +194,13 @@ goes e s h n (writes off k v ∷ es) =
     let g = goes e (box (s .control) (writeB e s off k v)) h (f .held) es in
     let m = subst (λ (k′ : ℕ). (answers e (box (s .control) (writeB e s off k v)) es ≡ ruled e k′ h es) × HeldIn e (after e (box (s .control) (writeB e s off k v)) es) (heapAfter e k′ h es)) (f .count) (g .answered, g .held) in
     record { answered = m .0; held = m .1; count = g .count ∙ f .count }
+goes e s h n (rebuilds ∷ es) =
+    let f = remade-held e s h n in
+    let g = goes e (remadeBox e s) (remade e h) (f .held) es in
+    let b = remadeBox e s in
+    let m = subst (λ (k : ℕ). (answers e b es ≡ ruled e k (remade e h) es) × HeldIn e (after e b es) (heapAfter e k (remade e h) es))
+    (f .count) (g .answered, g .held) in
+    record { answered = rw (f .answer, m .0) refl; held = m .1; count = g .count ∙ f .count }
 
 -- "What may sway an answer": the heap that is held, and the number of words
 pub sways : (e : Edition) (s t : Box) (h : Heap) → HeldIn e s h → HeldIn e t h → length (s .words) ≡ length (t .words) → (es : List Event) → answers e s es ≡ answers e t es

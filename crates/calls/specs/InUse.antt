@@ -12,7 +12,7 @@ use lib.ListN.{length}
 use Rattle.words.specs.Logic.{pick-case}
 use Rattle.words.specs.Edition.{Edition, wide, narrow, W, enc, dec-enc}
 use Rattle.index.specs.Sizes.{needWords}
-use Rattle.tiling.specs.Tiling.{used, Starts}
+use Rattle.tiling.specs.Tiling.{Chunk, used, Starts}
 use Rattle.rules.specs.Heap.{Heap, freshHeap}
 use Rattle.rules.specs.Malloc.{Grant, malloc}
 use Rattle.rules.specs.Free.{giveBack}
@@ -26,7 +26,9 @@ use Rattle.holds.specs.Lookup.{heads-tidy}
 use Rattle.chunk.specs.Held.{Held}
 use Rattle.decides.specs.LiveLaws.{Live, live-starts}
 use Rattle.calls.specs.CallObeys.{place-plain, Good, one-of, goods, malloc-blocks, realloc-blocks, memalign-blocks}
-use Rattle.calls.specs.Histories.{Box, box, Event, asks, writes, writeB, asked, answers, heapAfter, HeldIn, calls-held, write-held, setUpOn}
+use Rattle.calls.specs.Histories.{Box, box, Event, asks, writes, rebuilds, writeB, asked, remadeBox}
+use Rattle.calls.specs.Histories.{answers, heapAfter, HeldIn, calls-held, write-held, remade-held, setUpOn}
+use Rattle.calls.specs.Rebuilds.{remade}
 use Rattle.calls.specs.Record.{image}
 use Rattle.calls.specs.RecordLaws.{held-image}
 
@@ -51,6 +53,8 @@ Ledger P [] told off = P off
 Ledger P (asks c ∷ es) [] off = P off
 Ledger P (asks c ∷ es) (a ∷ told) off = Ledger (Next P c a) es told off
 Ledger P (writes b k v ∷ es) told off = Ledger P es told off
+Ledger P (rebuilds ∷ es) [] off = P off
+Ledger P (rebuilds ∷ es) (a ∷ told) off = Ledger P es told off
 
 next-same : (P Q : ℕ → Type 0) → ((off : ℕ) → P off ↔ Q off) → (c : Call) (a : Answer) (off : ℕ) → Next P c a off ↔ Next Q c a off
 next-same P Q f c (granted b) off = (⊎-elim (λ u. inl (f off .0 (u .0), u .1)) (λ u. inr u), ⊎-elim (λ u. inl (f off .1 (u .0), u .1)) (λ u. inr u))
@@ -63,6 +67,8 @@ ledger-same P Q f [] told off = f off
 ledger-same P Q f (asks c ∷ es) [] off = f off
 ledger-same P Q f (asks c ∷ es) (a ∷ told) off = ledger-same (Next P c a) (Next Q c a) (next-same P Q f c a) es told off
 ledger-same P Q f (writes b k v ∷ es) told off = ledger-same P Q f es told off
+ledger-same P Q f (rebuilds ∷ es) [] off = f off
+ledger-same P Q f (rebuilds ∷ es) (a ∷ told) off = ledger-same P Q f es told off
 
 -- blocks of two chunks are two
 block-one : (e : Edition) (x p : ℕ) → blockOf e x ≡ blockOf e p → x ≡ p
@@ -154,6 +160,14 @@ tells e s h n (asks c ∷ es) off =
 tells e s h n (writes b k v ∷ es) off =
     let f = write-held e s h n b k v in
     subst (λ (m : ℕ). Live e (heapAfter e m h es .chunks) off ↔ Ledger (Live e (h .chunks)) es (answers e (box (s .control) (writeB e s b k v)) es) off) (f .count) (tells e (box (s .control) (writeB e s b k v)) h (f .held) es off)
+tells e s h n (rebuilds ∷ es) off =
+    let f = remade-held e s h n in
+    let b = remadeBox e s in
+    let k = remade e h in
+    let a = subst (λ (m : ℕ). Live e (heapAfter e m k es .chunks) off ↔ Ledger (Live e (k .chunks)) es (answers e b es) off)
+    (f .count) (tells e b k (f .held) es off) in
+    subst (λ (cs : List Chunk). Live e (heapAfter e (length (s .words)) k es .chunks) off ↔ Ledger (Live e cs) es (answers e b es) off)
+    (f .chunks) a
 
 -- from set-up: the blocks in use are those granted and not since given back or moved
 pub in-use : (e : Edition) (w : List ℕ) → length w % 2 ≡ 0 → 16 ≤ length w → length w ≤ 8192 → (es : List Event) (off : ℕ)

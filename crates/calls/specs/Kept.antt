@@ -22,7 +22,9 @@ use Rattle.holds.specs.Holds.{Holds}
 use Rattle.holds.specs.Unique.{holds-unique}
 use Rattle.sound.specs.SoundBytes.{liveB, usableB}
 use Rattle.decides.specs.LiveLaws.{isSome, live-starts}
-use Rattle.calls.specs.Histories.{Box, box, Event, asks, writes, writeB, asked, after, heapAfter, HeldIn, let-through, calls-held, live-in, usable-in, word-of, below, write-held}
+use Rattle.calls.specs.Histories.{Box, box, Event, asks, writes, rebuilds, writeB, asked, remadeBox, after, heapAfter}
+use Rattle.calls.specs.Histories.{HeldIn, let-through, calls-held, live-in, usable-in, word-of, below, write-held, remade-held}
+use Rattle.calls.specs.Rebuilds.{remade}
 use Rattle.calls.specs.CallBytes.{Told, refusal}
 use Rattle.calls.specs.Rows.{refused-still}
 use Rattle.calls.specs.Record.{image}
@@ -35,12 +37,14 @@ abbrev pub Unmoved : Edition → Box → List Event → ℕ → Type 0
 Unmoved e s [] x = Unit {0}
 Unmoved e s (asks c ∷ es) x = (Names e c x → refusal (callA e (s .control) (s .words) c .answer) ≡ 0 → ⊥) × Unmoved e (asked e s c) es x
 Unmoved e s (writes off k v ∷ es) x = Unmoved e (box (s .control) (writeB e s off k v)) es x
+Unmoved e s (rebuilds ∷ es) x = Unmoved e (remadeBox e s) es x
 
 -- no write of its owner is to word i of that block
 abbrev pub Unwritten : Edition → List Event → ℕ → ℕ → Type 0
 Unwritten e [] x i = Unit {0}
 Unwritten e (asks c ∷ es) x i = Unwritten e es x i
 Unwritten e (writes off k v ∷ es) x i = (off ≡ blockOf e x → k ≡ i → ⊥) × Unwritten e es x i
+Unwritten e (rebuilds ∷ es) x i = Unwritten e es x i
 
 -- two blocks in use share no word
 pub blocks-apart : (h : Heap) (x z p t : ℕ) → Starts 0 (h .chunks) x (used z) → Starts 0 (h .chunks) p (used t) → (x ≡ p → ⊥) → (x + z ≤ p) ⊎ (p + t ≤ x)
@@ -135,4 +139,11 @@ kept e s h n x z st (writes off k v ∷ es) u =
     record {
       stays = subst (λ (k′ : ℕ). Starts 0 (heapAfter e k′ h es .chunks) x (used z)) (f .count) (g .stays);
       word = λ i l y. g .word i l (y .1) ∙ write-keeps e s h n x z st i off k v l (y .0);
+    }
+kept e s h n x z st (rebuilds ∷ es) u =
+    let f = remade-held e s h n in
+    let g = kept e (remadeBox e s) (remade e h) (f .held) x z (subst (λ cs. Starts 0 cs x (used z)) (sym (f .chunks)) st) es u in
+    record {
+      stays = subst (λ (k : ℕ). Starts 0 (heapAfter e k (remade e h) es .chunks) x (used z)) (f .count) (g .stays);
+      word = λ i l y. g .word i l y ∙ f .keeps x z st (x + 2 + i) (omega arith) l;
     }

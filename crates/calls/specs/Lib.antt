@@ -10,6 +10,7 @@ pub mod CallReach
 pub mod Stars
 pub mod Refusals
 pub mod Rows
+pub mod Rebuilds
 pub mod Histories
 pub mod Owners
 pub mod Kept

@@ -47,7 +47,10 @@ use Rattle.calls.specs.Record.{image}
 use Rattle.calls.specs.RecordLaws.{held-image}
 use Rattle.calls.specs.ByValue.{callA}
 use Rattle.calls.specs.CallObeys.{Good, one-of, goods, place-plain, even, least, low, big}
-use Rattle.calls.specs.Histories.{Box, box, Event, asks, writes, writeB, asked, answers, HeldIn, Does, calls-held, write-held}
+use Rattle.calls.specs.Histories.{Box, box, Event, asks, writes, rebuilds, writeB, asked, remadeBox}
+use Rattle.calls.specs.Histories.{answers, HeldIn, Does, calls-held, write-held, remade-held, sways}
+use Rattle.rebuild.specs.Rebuilding.{rebuiltHeap}
+use Rattle.calls.specs.Rebuilds.{remade}
 
 -- no place stands twice in a trie of what is left
 once-after : (e : Edition) (r w : List ℕ) (a : Reply) (m : Option Grant) → Obeys e r w a m → OnceAfter m
@@ -222,3 +225,10 @@ shapes e s t h h′ n n′ q a (writes off k v ∷ es) =
     let f = write-held e s h n off k v in
     let f′ = write-held e t h′ n′ off k v in
     shapes e (box (s .control) (writeB e s off k v)) (box (t .control) (writeB e t off k v)) h h′ (f .held) (f′ .held) (f .count ∙ q ∙ sym (f′ .count)) a es
+shapes e s t h h′ n n′ q a (rebuilds ∷ es) =
+    let f = remade-held e s h n in
+    let f′ = remade-held e t h′ n′ in
+    let one : remade e h′ ≡ remade e h = sym (ap₂ (rebuiltHeap e) (a .chunks) (a .top)) in
+    ap₂ (λ x y. x ∷ y) (f .answer ∙ sym (f′ .answer))
+    (sways e (remadeBox e s) (remadeBox e t) (remade e h) (f .held) (subst (HeldIn e (remadeBox e t)) one (f′ .held))
+    (f .count ∙ q ∙ sym (f′ .count)) es)

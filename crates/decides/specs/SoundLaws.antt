@@ -34,7 +34,7 @@ use Rattle.decides.specs.SpareLaws.{dv-yes, dv-there}
 
 -- ---- the numbers
 
-count-yes : (n : ℕ) → countOk n ≡ true → (16 ≤ n) × (n ≤ 8192) × (n % 2 ≡ 0)
+pub count-yes : (n : ℕ) → countOk n ≡ true → (16 ≤ n) × (n ≤ 8192) × (n % 2 ≡ 0)
 unfolding countOk
 count-yes n h =
     let a = leb 16 n in
@@ -42,7 +42,7 @@ count-yes n h =
     let c = eqb (n % 2) 0 in
     (leb-true 16 n (and-left a b (and-left (a && b) c h)), leb-true n 8192 (and-right a b (and-left (a && b) c h)), eqb-true (n % 2) 0 (and-right (a && b) c h))
 
-count-there : (n : ℕ) → 16 ≤ n → n ≤ 8192 → n % 2 ≡ 0 → countOk n ≡ true
+pub count-there : (n : ℕ) → 16 ≤ n → n ≤ 8192 → n % 2 ≡ 0 → countOk n ≡ true
 unfolding countOk
 count-there n l m v = and-both _ _ (and-both _ _ (le-leb 16 n l) (le-leb n 8192 m)) (eq-eqb (n % 2) 0 v)
 
@@ -220,7 +220,7 @@ module _ (e : Edition) (r w : List ℕ) (q : length r ≡ 72) where
           (c .0, f .0, f .2, omega (arith, starts-in e w 0 true (h .chunks) x (free (c .0)) (n .heads .run) (c .1), n .heads .top .ends, n .most))
 
 -- a Bool that is true exactly when P decides it
-decides-of : (b : Bool) (P : Type 0) → (b ≡ true → P) → (P → b ≡ true) → Decides b P
+pub decides-of : (b : Bool) (P : Type 0) → (b ≡ true → P) → (P → b ≡ true) → Decides b P
 decides-of true P f g = f refl
 decides-of false P f g = λ p. false-true (g p)
 

@@ -153,6 +153,36 @@ fn all_given_back(w: &mut [u64]) {
     say::record(two_frees(c, w, 96, 48));
 }
 
+// ---- document 02, (xiii): the record is lost
+
+fn rebuild(w: &mut [u64], start: u64) -> Control {
+    let x = arena::rebuild(w, start);
+    let a = x.answer;
+    say::text(b"rebuild, start ");
+    say::number(start);
+    say::answer(a);
+    x.control
+}
+
+// State D: the spare chunk goes into its bin, and the bin serves.
+fn record_lost(w: &mut [u64]) {
+    state_d(w);
+    let c = rebuild(w, 0);
+    say::record(c);
+    say::record(two_mallocs(c, w, 100, 88));
+}
+
+// Without its foot word it is no arena.
+fn foot_word_lost(w: &mut [u64; 128]) {
+    w[119] = 81;
+    say::record(rebuild(w, 0));
+}
+
+fn lost(w: &mut [u64; 128]) {
+    record_lost(w);
+    foot_word_lost(w);
+}
+
 fn not_starred(w: &mut [u64; 128]) {
     resized(w, 920);
     resized(w, 921);
@@ -182,4 +212,5 @@ fn main() {
     let mut w = [0u64; 128];
     not_starred(&mut w);
     starred(&mut w);
+    lost(&mut w);
 }

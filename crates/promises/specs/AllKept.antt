@@ -12,6 +12,8 @@ use Rattle.promises.specs.ResizeKept.{resize-keeps, copies-into, copies-
 use Rattle.promises.specs.NumbersKept.{numbers}
 use Rattle.promises.specs.GrantsKept.{grants}
 use Rattle.promises.specs.LendsKept.{lends}
+use Rattle.promises.specs.Requests.{Requests}
+use Rattle.promises.specs.RebuildKept.{rebuild}
 use Rattle.promises.specs.SwayedKept.{swayed}
 use Rattle.promises.specs.SettledKept.{settled}
 
@@ -57,3 +59,7 @@ kept =
       swayed = swayed;
       settled = settled;
     }
+
+-- and document 02's requests
+pub requests-kept : Requests
+requests-kept = record { rebuild = rebuild }

@@ -23,7 +23,9 @@ use Rattle.decides.specs.LiveLaws.{isSome, Live, live-starts, starts-live}
 use Rattle.calls.specs.CallBytes.{refusal}
 use Rattle.calls.specs.ByValue.{callA}
 use Rattle.calls.specs.Histories as H
-use Rattle.calls.specs.Histories.{Box, box, Event, asks, writes, writeB, asked, after, answers, heapAfter, HeldIn, calls-held, write-held, live-in, usable-in, word-of, setUpOn, from-set-up}
+use Rattle.calls.specs.Rebuilds.{remade}
+use Rattle.calls.specs.Histories.{Box, box, Event, asks, writes, rebuilds, writeB, asked, remadeBox, after, answers}
+use Rattle.calls.specs.Histories.{heapAfter, HeldIn, calls-held, write-held, remade-held, live-in, usable-in, word-of, setUpOn, from-set-up}
 use Rattle.calls.specs.InUse as use-of
 use Rattle.calls.specs.InUse.{Ledger}
 use Rattle.calls.specs.Kept.{Unmoved, Unwritten, Kept, blocks-apart, kept}
@@ -93,6 +95,11 @@ none-unsound s h n (asks k ∷ es) =
     let q = subst (λ (a : Answer). (refusal a ≡ 1 → ⊥) × (refusal a ≡ 2 → ⊥)) (sym (f .answer)) r in
     (q .0, q .1, none-unsound (asked wide s k) (answerTo wide (length (s .words)) h k .heap) (f .held) es)
 none-unsound s h n (writes off i v ∷ es) = none-unsound (box (s .control) (writeB wide s off i v)) h (write-held wide s h n off i v .held) es
+none-unsound s h n (rebuilds ∷ es) =
+    let f = remade-held wide s h n in
+    let q = subst (λ (a : Answer). (refusal a ≡ 1 → ⊥) × (refusal a ≡ 2 → ⊥)) (sym (f .answer))
+    ((λ y. omega (arith, y)), (λ y. omega (arith, y))) in
+    (q .0, q .1, none-unsound (remadeBox wide s) (remade wide h) (f .held) es)
 
 -- ---- from one granted set-up
 

@@ -1,5 +1,6 @@
 -- The promises on one page, and below it what shows them.
 pub mod Promises
+pub mod Requests
 pub mod RoomLaws
 pub mod RowLaws
 pub mod AnyInputKept
@@ -12,6 +13,8 @@ pub mod GrantsKept
 pub mod LendsKept
 pub mod SwayedKept
 pub mod SettledKept
+pub mod RebuildKept
 pub mod AllKept
 pub mod Instance
 pub mod GrantsInstance
+pub mod RebuildInstance

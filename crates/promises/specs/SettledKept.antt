@@ -90,7 +90,8 @@ control-back c = ap (λ z. withLinks c z (links (offsets (c .treebins)))) (links
 
 -- ---- outcomes
 
-one : (t : Ends) (d d′ : Control) (v v′ : List ℕ) (a a′ : Answer) → ends (answerOf a) (numbers d) v ≡ t → ends (answerOf a′) (numbers d′) v′ ≡ t → (a ≡ a′) × (d ≡ d′) × (v ≡ v′)
+pub one : (t : Ends) (d d′ : Control) (v v′ : List ℕ) (a a′ : Answer) → ends (answerOf a) (numbers d) v ≡ t
+    → ends (answerOf a′) (numbers d′) v′ ≡ t → (a ≡ a′) × (d ≡ d′) × (v ≡ v′)
 one t d d′ v v′ a a′ p q =
     let z = p ∙ sym q in
     (sym (answer-back a) ∙ ap (λ (x : Ends). answer (x .answer)) z ∙ answer-back a′, sym (control-back d) ∙ ap (λ (x : Ends). control (x .control)) z ∙ control-back d′, ap (λ (x : Ends). x .words) z)

@@ -3,13 +3,13 @@ use mathlib.Core.Bool.{Bool, true, false, _&&_}
 use mathlib.Core.List.{List}
 use mathlib.Core.Logic.{⊎-elim}
 use mathlib.Core.Path.{_≡_, refl, sym, ap, _∙_}
-use Prim.Native.Nat.{ℕ, zero, suc, _+_, _-_, _%_, _^_, _≤_, _<_}
+use Prim.Native.Nat.{ℕ, zero, suc, _+_, _-_, _*_, _%_, _^_, _≤_, _<_}
 use native.Mathlib.Omega.{arith}
 use lib.Dec.{eqb, leb}
 use lib.ListN.{getD}
 use borrow.Author.Tests.{eq-eqb, ne-eqb, lt-ltb, le-ltb, le-leb, lt-leb, leb-true, not-true, not-false}
 use Rattle.words.specs.Logic.{pick, pick-case, same?, le-or-lt, false-true}
-use Rattle.words.specs.Edition.{wide}
+use Rattle.words.specs.Edition.{Edition, wide, W, flagsOf}
 use Rattle.chunk.specs.Bytes.{word}
 use Rattle.marks.specs.Marks.{setMark, checked, turns}
 use Rattle.tiles.specs.TilesBytes.{headIs, topOk, Step, step, usedFlags, headSize, roomFor, freeOk, chunkAt, walkHeads}
@@ -90,15 +90,15 @@ module _ (p n top : ℕ) where
     pub room-rest : p ≤ top → leb n (top - p) ≡ roomFor wide p n top
     room-rest l = leb-same n (top - p) (p + n) top (λ z. omega arith) (λ z. omega arith) ∙ sym (rw (le-leb 32 n a) refl)
 
-  room-end : roomFor wide p n top ≡ true → p + n ≤ top
-  room-end = go (leb 32 n) (leb (p + n) top) (leb-true (p + n) top)
+  room-end : (E : Edition) → roomFor E p n top ≡ true → p + n ≤ top
+  room-end E = go (leb (4 * W E) n) (leb (p + n) top) (leb-true (p + n) top)
     where
       go : (a b : Bool) → (b ≡ true → p + n ≤ top) → a && b ≡ true → p + n ≤ top
       go true b f q = f q
       go false b f q = false-true q
 
   pub room-fits : {x : Bool} → x ≡ roomFor wide p n top → x ≡ true → top < 2 ^ 64 → p + n < 2 ^ 64
-  room-fits e q l = omega (arith, room-end (sym e ∙ q))
+  room-fits e q l = omega (arith, room-end wide (sym e ∙ q))
 
 module _ (w : List ℕ) (pu : Bool) (f n next : ℕ) where
   pub free-after : pu ≡ false → false ≡ freeOk wide w pu f n next
@@ -149,14 +149,16 @@ module _ (m : List ℕ) (p : ℕ) (u : Bool) where
 -- ---- the walk
 
 -- the size of a chunk that is there lies before the top
-chunk-size : (w : List ℕ) (p : ℕ) (pu : Bool) (top : ℕ) → (chunkAt wide w p pu top .size ≡ 0 → ⊥) → p + chunkAt wide w p pu top .size ≤ top
+pub chunk-size : (E : Edition) (w : List ℕ) (p : ℕ) (pu : Bool) (top : ℕ) → (chunkAt E w p pu top .size ≡ 0 → ⊥)
+    → p + chunkAt E w p pu top .size ≤ top
 unfolding chunkAt
-chunk-size w p pu top =
-    pick-case (λ (s : Step). (s .size ≡ 0 → ⊥) → p + s .size ≤ top) (roomFor wide p (headSize wide w p) top)
-    (λ q. pick-case (λ (s : Step). (s .size ≡ 0 → ⊥) → p + s .size ≤ top) (eqb (word wide w p 1 % 16) (usedFlags pu))
-    (λ _ _. room-end p (headSize wide w p) top q)
-    (λ _. pick-case (λ (s : Step). (s .size ≡ 0 → ⊥) → p + s .size ≤ top) (freeOk wide w pu (word wide w p 1 % 16) (headSize wide w p) (p + headSize wide w p))
-    (λ _ _. room-end p (headSize wide w p) top q) (λ _ n. absurd (n refl))))
+chunk-size E w p pu top =
+    pick-case (λ (s : Step). (s .size ≡ 0 → ⊥) → p + s .size ≤ top) (roomFor E p (headSize E w p) top)
+    (λ q. pick-case (λ (s : Step). (s .size ≡ 0 → ⊥) → p + s .size ≤ top) (eqb (flagsOf E (word E w p 1)) (usedFlags pu))
+    (λ _ _. room-end p (headSize E w p) top E q)
+    (λ _. pick-case (λ (s : Step). (s .size ≡ 0 → ⊥) → p + s .size ≤ top)
+    (freeOk E w pu (flagsOf E (word E w p 1)) (headSize E w p) (p + headSize E w p))
+    (λ _ _. room-end p (headSize E w p) top E q) (λ _ n. absurd (n refl))))
     (λ _ n. absurd (n refl))
 
 pub record Walks (w : List ℕ) (top : ℕ) (m₀ : List ℕ) (p : ℕ) (pu : Bool) (m : List ℕ) (left : ℕ) : Type 0 where
@@ -208,7 +210,8 @@ module _ (w : List ℕ) (top : ℕ) (m₀ : List ℕ) (p : ℕ) (pu : Bool) (m :
         there z = q (ap (λ (s : Step). s .size) e ∙ z)
 
         pub walk-fits : top < 2 ^ 64 → p + n < 2 ^ 64
-        walk-fits b = let z : n ≡ chunkAt wide w p pu top .size = ap (λ (s : Step). s .size) e in omega (arith, chunk-size w p pu top there)
+        walk-fits b = let z : n
+            ≡ chunkAt wide w p pu top .size = ap (λ (s : Step). s .size) e in omega (arith, chunk-size wide w p pu top there)
 
         pub walk-turn : {m₁ : List ℕ} → m₁ ≡ pick u m (setMark wide m p) → Walks w top m₀ (p + n) u m₁ (left - 1)
         walk-turn {m₁} z =

@@ -87,7 +87,7 @@ fn free_ok(w: &[u64], pu: bool, f: u64, n: u64, next: ChunkOff) -> bool
 }
 
 // The chunk at p. pu: the chunk before is in use.
-fn chunk_at(w: &[u64], p: u64, pu: bool, top: u64) -> Found
+pub fn chunk_at(w: &[u64], p: u64, pu: bool, top: u64) -> Found
     ensures { λ x. ⌜ step (x .n) (x .used) ≡ chunkAt wide (now (w .entry)) p pu top ⌝ }
 {
     let h = get(w, ChunkOff(p), 1);
