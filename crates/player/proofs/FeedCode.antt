@@ -109,8 +109,13 @@ module _ {piece line₀ : List ℕ} {p₀ : Place} {d₀ : Desk} {line : List �
   unfolding placeOf
   feeding-place = ap (placeOf line p) (sym none-left) ∙ f .place-same
 
-  pub feeding-desk : d ≡ playAll d₀ (outOf line₀ p₀ piece)
+  feeding-desk : d ≡ playAll d₀ (outOf line₀ p₀ piece)
   unfolding playAll outOf
   feeding-desk = ap (λ k. playAll d (outOf line p k)) (sym none-left) ∙ f .desk-same
+
+-- the buffer of lines was emptied first
+pub feeding-from : {piece line₀ : List ℕ} {p₀ : Place} {m : Run} (n : Run) {r v out : List ℕ} {line : List ℕ} {p : Place} {d : Desk} {i : ℕ}
+    → Feeding piece line₀ p₀ (desk m r v out) line p d i → length piece ≤ i → m ≡ n → d ≡ playAll (desk n r v out) (outOf line₀ p₀ piece)
+feeding-from {piece} {line₀} {p₀} n {r} {v} {out} f l q = feeding-desk f l ∙ ap (λ z. playAll (desk z r v out) (outOf line₀ p₀ piece)) q
 
 pub ruleset laws = (start-is, tell-is, hand-none, hand-one, take-place, take-desk, end-desk)

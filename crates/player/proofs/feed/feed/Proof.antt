@@ -3,7 +3,7 @@ use native.Mathlib.Omega.{arith}
 use lib.ListN.{length}
 use borrow.Author.Needs.{needs}
 use Rattle.player.specs.FeedBytes.{desk}
-use Rattle.player.proofs.FeedCode.{Feeding, feeding-start, feeding-turn, feeding-line, feeding-place, feeding-desk}
+use Rattle.player.proofs.FeedCode.{Feeding, feeding-start, feeding-turn, feeding-line, feeding-place, feeding-from}
 use Rattle.player.proofs.feed.feed.Statement.{statement}
 use Rattle.player.proofs.feed.feed.Tie as tie
 use Rattle.player.proofs.feed.feed.Reads as reads
@@ -43,7 +43,9 @@ loop-less c = search needs
 
 -- src/feed.rt:123:5
 loop-again : tie.Need-loop-again Inv-loop μ-loop
-loop-again c = ?
+loop-again c =
+    feeding-turn (c .before .before .before .before .before .before .before .before .before .before .before .before .before .loop .inv) (c .before .before .before .before .before .before .before .before .before .before .before .before .loop-test .taken) (c .before .before .before .before .before .before .take .ensures .0) (c .before .before .before .before .before .before .take .ensures .1 .0) (c .before .before .before .before .before .before .take .ensures .1 .1)
+    (c .before .before .before .before .before .before .take .kept .1 .1 .0) (c .before .before .before .before .before .before .take .kept .1 .1 .1 .1 .0) (c .before .before .before .before .before .before .take .kept .1 .1 .1 .1 .1 .0)
 
 -- src/feed.rt:104:1
 same-length : tie.Need-same-length Inv-loop μ-loop
@@ -59,7 +61,7 @@ same-length-3 c = search needs
 
 -- src/feed.rt:104:1
 returns : tie.Need-returns Inv-loop μ-loop
-returns c = ?
+returns c = (feeding-line (c .before .loop .inv) (c .loop-test .left), (feeding-place (c .before .loop .inv) (c .loop-test .left), feeding-from _ (c .before .loop .inv) (c .loop-test .left) (c .before .before .emptied .ensures)))
 
 pub feed-spec : {M : Type 1} → statement M
 feed-spec =
