@@ -76,14 +76,7 @@ fn hand_out(g: Got, run: Run, r: &mut [u64; 72], w: &mut [u64], out: &mut [u8]) 
 }
 
 // One byte.
-fn take(
-    b: u8,
-    from: Fed,
-    line: &mut [u8],
-    r: &mut [u64; 72],
-    w: &mut [u64],
-    out: &mut [u8],
-) -> Fed
+fn take(b: u8, from: Fed, line: &mut [u8], r: &mut [u64; 72], w: &mut [u64], out: &mut [u8]) -> Fed
     ensures { λ x. ⌜ now (line .exit) ≡ lineAfter (now (line .entry)) (from .place) b ⌝ }
     ensures { λ x. ⌜ x .place ≡ stepAt (now (line .entry)) (from .place) b .place ⌝ }
     ensures { λ x. ⌜ desk (x .run) (now (r .exit)) (now (w .exit)) (now (out .exit)) ≡ handedOut (desk (from .run) (now (r .entry)) (now (w .entry)) (now (out .entry))) (stepAt (now (line .entry)) (from .place) b .got) ⌝ }
@@ -128,13 +121,7 @@ pub fn feed(
 }
 
 // The log has ended: the last record may lack its CRLF.
-pub fn end(
-    from: Fed,
-    line: &mut [u8],
-    r: &mut [u64; 72],
-    w: &mut [u64],
-    out: &mut [u8],
-) -> Run
+pub fn end(from: Fed, line: &mut [u8], r: &mut [u64; 72], w: &mut [u64], out: &mut [u8]) -> Run
     ensures { λ x. ⌜ now (line .exit) ≡ lineAtEnd (now (line .entry)) (from .place) ⌝ }
     ensures { λ x. ⌜ desk x (now (r .exit)) (now (w .exit)) (now (out .exit)) ≡ handedOut (desk (emptied (from .run)) (now (r .entry)) (now (w .entry)) (now (out .entry))) (ending (now (line .entry)) (from .place)) ⌝ }
 {

@@ -78,13 +78,7 @@ fn realloc(words: usize, r: &mut [u64; 72], w: &mut [u64], b: u64, bytes: u64) -
     answered(words, a)
 }
 
-fn memalign(
-    words: usize,
-    r: &mut [u64; 72],
-    w: &mut [u64],
-    alignment: u64,
-    bytes: u64,
-) -> Played
+fn memalign(words: usize, r: &mut [u64; 72], w: &mut [u64], alignment: u64, bytes: u64) -> Played
     ensures { λ x. ⌜ scene x (now (r .exit)) (now (w .exit)) ≡ callOn words (now (r .entry)) (now (w .entry)) (Memalign alignment bytes) ⌝ }
 {
     if !ready(words, w.len()) {
