@@ -2,3 +2,4 @@
 pub mod Replayed
 pub mod PlayBytes
 pub mod FeedBytes
+pub mod PlayObeys
