@@ -3,3 +3,5 @@ pub mod Replayed
 pub mod PlayBytes
 pub mod FeedBytes
 pub mod PlayObeys
+pub mod LineRoom
+pub mod Pieces
