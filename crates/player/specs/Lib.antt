@@ -5,3 +5,4 @@ pub mod FeedBytes
 pub mod PlayObeys
 pub mod LineRoom
 pub mod Pieces
+pub mod History

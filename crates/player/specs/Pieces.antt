@@ -1,7 +1,7 @@
 -- THE OUTPUT IS `replayed` OF THE LOG, WHATEVER THE PIECES (`whole`). What a program writes that begins, feeds the pieces one after the other, writes after each what
 -- stands in the buffer, and at last the end's line, is said with the contracts' own definitions (`output`). Assumes nothing.
 use mathlib.Core.Bool.{false}
-use mathlib.Core.List.{List, [], _∷_, _++_, append-nil, append-assoc}
+use mathlib.Core.List.{List, [], _∷_, _++_, flatten, append-nil, append-assoc}
 use mathlib.Core.Path.{_≡_, refl, sym, ap, _∙_, subst}
 use Prim.Native.Nat.{ℕ, suc, _+_, _*_, _%_, _^_, _≤_, _<_}
 use native.Mathlib.Nat.{add-zero}
@@ -42,11 +42,6 @@ written line p d (x ∷ xs) =
 unfoldable pub output : List ℕ → List ℕ → List ℕ → List ℕ → List (List ℕ) → List ℕ
 output line im v out xs =
     take (headerEnd out) (headerPut out) ++ written line (fresh (headerEnd out) .place) (desk (fresh (headerEnd out) .run) im v (headerPut out)) xs
-
--- the pieces put together
-abbrev pub joined : List (List ℕ) → List ℕ
-joined [] = []
-joined (x ∷ xs) = x ++ joined xs
 
 -- none is longer than m
 abbrev pub Short : ℕ → List (List ℕ) → Type 0
@@ -152,22 +147,22 @@ end-is d k s (Record e) o l room =
     ∙ sym (append-nil (answerLine (k + 1) (r.lineOf s e .refusal) (r.lineOf s e .offset)))
 
 pub written-is : (m : ℕ) (line : List ℕ) (p : Place) (d : Desk) (k : ℕ) (s : Work) (xs : List (List ℕ)) → On d k s
-    → 1 ≤ m → 64 * m ≤ length (d .out) → Short m xs → k + length (joined xs) + 1 < 2 ^ 64
-    → written line p d xs ≡ linesFrom (k + 1) s (handed line p (joined xs))
-unfolding written handed
+    → 1 ≤ m → 64 * m ≤ length (d .out) → Short m xs → k + length (flatten xs) + 1 < 2 ^ 64
+    → written line p d xs ≡ linesFrom (k + 1) s (handed line p (flatten xs))
+unfolding written handed flatten
 written-is m line p d k s [] o n room sh l = end-is d k s (ending line p) o (omega (arith, l)) (omega (arith, n, room))
 written-is m line p d k s (x ∷ xs) o n room sh l =
     let es = outOf line p x in
     let f = out-short line p x in
-    let j = length-append x (joined xs) in
+    let j = length-append x (flatten xs) in
     let w = all-wrote (cleared d) k s (outOf line p x) (record { lines = o .lines; room = o .room; stands = o .stands })
         (omega (arith, f, j, l)) (omega (arith, f, room, sh .0)) in
     let ih = written-is m (lineOf line p x) (placeOf line p x) (playAll (cleared d) (outOf line p x)) (k + length (outOf line p x)) (workAfter s (outOf line p x)) xs (w .on) n
         (omega (arith, w .long, room)) (sh .1) (omega (arith, f, j, l)) in
     ap (λ z. z ++ written (lineOf line p x) (placeOf line p x) (playAll (cleared d) (outOf line p x)) xs) (w .shows)
-    ∙ ap (λ z. linesFrom (k + 1) s (outOf line p x) ++ z) (ih ∙ ap (λ z. linesFrom z (workAfter s (outOf line p x)) (handed (lineOf line p x) (placeOf line p x) (joined xs))) (let z : k + length (outOf line p x) + 1 ≡ k + 1 + length (outOf line p x) = omega arith in z))
-    ∙ sym (lines-append (k + 1) s (outOf line p x) (handed (lineOf line p x) (placeOf line p x) (joined xs)))
-    ∙ ap (linesFrom (k + 1) s) (sym (in-pieces line p x (joined xs)))
+    ∙ ap (λ z. linesFrom (k + 1) s (outOf line p x) ++ z) (ih ∙ ap (λ z. linesFrom z (workAfter s (outOf line p x)) (handed (lineOf line p x) (placeOf line p x) (flatten xs))) (let z : k + length (outOf line p x) + 1 ≡ k + 1 + length (outOf line p x) = omega arith in z))
+    ∙ sym (lines-append (k + 1) s (outOf line p x) (handed (lineOf line p x) (placeOf line p x) (flatten xs)))
+    ∙ ap (linesFrom (k + 1) s) (sym (in-pieces line p x (flatten xs)))
 
 -- ---- the header
 
@@ -192,11 +187,11 @@ module _ (out : List ℕ) (l : 64 ≤ length out) where
 
 -- a line of 64 bytes, a buffer of 8,192 words, one of 64 bytes for each byte of the longest piece, pieces of any other kind, a log of fewer than 2^64 - 1 bytes
 pub whole : (m : ℕ) (line im v out : List ℕ) (xs : List (List ℕ)) → length line ≡ 64 → 8192 ≤ length v → 1 ≤ m → 64 * m ≤ length out → Short m xs
-    → length (joined xs) + 1 < 2 ^ 64 → output line im v out xs ≡ replayed (joined xs)
+    → length (flatten xs) + 1 < 2 ^ 64 → output line im v out xs ≡ replayed (flatten xs)
 unfolding output replayed
 whole m line im v out xs a b n room sh l =
     let f : 64 ≤ length out = omega (arith, n, room) in
     ap (λ z. z ++ written line (fresh (headerEnd out) .place) (desk (fresh (headerEnd out) .run) im v (headerPut out)) xs) (head-text out f)
     ∙ ap (λ z. header ++ z) (written-is m line (fresh (headerEnd out) .place) (desk (fresh (headerEnd out) .run) im v (headerPut out)) 0 idle xs
         (record { lines = refl; room = b; stands = refl }) n (omega (arith, room, head-long out f)) sh (omega (arith, l))
-    ∙ ap (linesFrom 1 idle) (cut-whole line (joined xs) a))
+    ∙ ap (linesFrom 1 idle) (cut-whole line (flatten xs) a))
