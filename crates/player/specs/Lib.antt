@@ -6,3 +6,4 @@ pub mod PlayObeys
 pub mod LineRoom
 pub mod Pieces
 pub mod History
+pub mod Example
