@@ -1,4 +1,5 @@
--- ONE CUTTING: `records` cuts a stream as document 02 says (`records-cut`), and no second list of records does (`one-cutting`). Assumes nothing.
+-- ONE CUTTING: `records` cuts a stream as document 02 says (`records-cut`), and no second list of records does (`one-cutting`). Assumes
+-- nothing.
 use mathlib.Core.Bool.{Bool, true, false, not, _&&_}
 use mathlib.Core.List.{List, [], _∷_, _++_, append-nil, cons-ne-nil, head-eq-of-cons-eq}
 use mathlib.Core.Logic.{_⊎_, inl, inr}
@@ -10,7 +11,8 @@ use Rattle.words.specs.Logic.{pick, by, false-true}
 use Rattle.log.specs.Cutting.{isCrlf, onto, records}
 use Rattle.log.specs.CuttingLaws.{noCrlf, records-crlf, records-last}
 
--- "Records end in CRLF, the last may lack it": no CRLF stands in a record; one stands behind it, or it is the last, and then it is not empty
+-- "Records end in CRLF, the last may lack it": no CRLF stands in a record; one stands behind it, or it is the last, and then it is not
+-- empty
 abbrev pub Cuts : List ℕ → List (List ℕ) → Type 0
 Cuts bs [] = bs ≡ []
 Cuts bs (r ∷ rs) = (noCrlf r ≡ true) × (((t : List ℕ) × (bs ≡ r ++ 13 ∷ 10 ∷ t) × Cuts t rs) ⊎ ((bs ≡ r) × (rs ≡ []) × (r ≡ [] → ⊥)))
@@ -30,7 +32,10 @@ front b c bs (x ∷ r) ys f n q = rw (ap (isCrlf b) (sym (head-eq-of-cons-eq q))
 onto-cuts : (b c : ℕ) (bs : List ℕ) (rs : List (List ℕ)) → isCrlf b c ≡ false → Cuts (c ∷ bs) rs → Cuts (b ∷ c ∷ bs) (onto b rs)
 onto-cuts b c bs [] f q = absurd (cons-ne-nil c bs q)
 onto-cuts b c bs (r ∷ rs) f (n, inl (t, q, k)) = (front b c bs r (13 ∷ 10 ∷ t) f n q, inl (t, ap (λ z. b ∷ z) q, k))
-onto-cuts b c bs (r ∷ rs) f (n, inr (q, e, g)) = (front b c bs r [] f n (q ∙ sym (append-nil r)), inr (ap (λ z. b ∷ z) q, e, λ z. cons-ne-nil b r z))
+onto-cuts b c bs (r ∷ rs) f (n, inr (q, e, g)) = (
+  front b c bs r [] f n (q ∙ sym (append-nil r)),
+  inr (ap (λ z. b ∷ z) q, e, λ z. cons-ne-nil b r z),
+)
 
 both : (b c : ℕ) → isCrlf b c ≡ true → (b ≡ 13) × (c ≡ 10)
 both b c q = go (eqb b 13) (eqb c 10) refl refl q

@@ -28,7 +28,8 @@ unfolding tellB
 tell-is e d r v out x r′ v′ {k} q n p s =
     ap (desk (run (x .words) k _) r′ v′) p
     ∙ ap (λ z. desk (run (x .words) k z) r′ v′ (linePut out (d .at) k (x .refusal) (x .offset))) s
-    ∙ ap (λ z. desk (run (x .words) z (lineEnd out (d .at) z (x .refusal) (x .offset))) r′ v′ (linePut out (d .at) z (x .refusal) (x .offset))) n
+    ∙ ap (λ z. desk (run (x .words) z (lineEnd out (d .at) z (x .refusal) (x .offset))) r′ v′
+    (linePut out (d .at) z (x .refusal) (x .offset))) n
     ∙ ap (lined d out) q
 
 module _ (d : Desk) {g : Got} where
@@ -71,33 +72,48 @@ pub record Feeding (piece line₀ : List ℕ) (p₀ : Place) (d₀ : Desk) (line
 
 pub feeding-start : (piece line : List ℕ) (p : Place) (d : Desk) → Feeding piece line p d line p d 0
 feeding-start piece line p d =
-    record { inside = omega arith; line-long = refl; buffer-long = refl; out-long = refl; line-same = refl; place-same = refl; desk-same = refl }
+    record {
+      inside = omega arith;
+      line-long = refl;
+      buffer-long = refl;
+      out-long = refl;
+      line-same = refl;
+      place-same = refl;
+      desk-same =
+          refl;
+    }
 
 pub feeding-turn : {piece line₀ : List ℕ} {p₀ : Place} {d₀ : Desk} {line : List ℕ} {p : Place} {d : Desk} {i : ℕ} {line′ : List ℕ} {p′ : Place} {d′ : Desk}
     → Feeding piece line₀ p₀ d₀ line p d i → i < length piece
-    → line′ ≡ lineAfter line p (getD piece i 0) → p′ ≡ stepAt line p (getD piece i 0) .place → d′ ≡ handedOut d (stepAt line p (getD piece i 0) .got)
+    → line′ ≡ lineAfter line p (getD piece i 0) → p′ ≡ stepAt line p (getD piece i 0) .place
+    → d′ ≡ handedOut d (stepAt line p (getD piece i 0) .got)
     → length line′ ≡ length line → length (d′ .buffer) ≡ length (d .buffer) → length (d′ .out) ≡ length (d .out)
     → Feeding piece line₀ p₀ d₀ line′ p′ d′ (i + 1)
 unfolding lineOf placeOf outOf
 feeding-turn {piece} {line₀} {p₀} {d₀} {line} {p} {d} {i} {line′} {p′} {d′} f l a b c x y z =
-    let n : drop i piece ≡ getD piece i 0 ∷ drop (i + 1) piece = drop-cons piece i 0 l ∙ ap (λ k. getD piece i 0 ∷ drop k piece) (sym (add-one i)) in
+    let n : drop i piece ≡ getD piece i 0 ∷ drop (i + 1) piece = drop-cons piece i 0 l
+    ∙ ap (λ k. getD piece i 0 ∷ drop k piece) (sym (add-one i)) in
     record {
       inside = omega arith;
       line-long = x ∙ f .line-long;
       buffer-long = y ∙ f .buffer-long;
       out-long = z ∙ f .out-long;
-      line-same = ap (λ k. lineOf k p′ (drop (i + 1) piece)) a ∙ ap (λ k. lineOf (lineAfter line p (getD piece i 0)) k (drop (i + 1) piece)) b
+      line-same = ap (λ k. lineOf k p′ (drop (i + 1) piece)) a
+          ∙ ap (λ k. lineOf (lineAfter line p (getD piece i 0)) k (drop (i + 1) piece)) b
           ∙ ap (lineOf line p) (sym n) ∙ f .line-same;
-      place-same = ap (λ k. placeOf k p′ (drop (i + 1) piece)) a ∙ ap (λ k. placeOf (lineAfter line p (getD piece i 0)) k (drop (i + 1) piece)) b
+      place-same = ap (λ k. placeOf k p′ (drop (i + 1) piece)) a
+          ∙ ap (λ k. placeOf (lineAfter line p (getD piece i 0)) k (drop (i + 1) piece)) b
           ∙ ap (placeOf line p) (sym n) ∙ f .place-same;
       desk-same = ap (λ k. playAll d′ (outOf k p′ (drop (i + 1) piece))) a
           ∙ ap (λ k. playAll d′ (outOf (lineAfter line p (getD piece i 0)) k (drop (i + 1) piece))) b
           ∙ ap (λ k. playAll k (outOf (lineAfter line p (getD piece i 0)) (stepAt line p (getD piece i 0) .place) (drop (i + 1) piece))) c
-          ∙ sym (play-hand d (stepAt line p (getD piece i 0) .got) (outOf (lineAfter line p (getD piece i 0)) (stepAt line p (getD piece i 0) .place) (drop (i + 1) piece)))
+          ∙ sym (play-hand d (stepAt line p (getD piece i 0) .got)
+          (outOf (lineAfter line p (getD piece i 0)) (stepAt line p (getD piece i 0) .place) (drop (i + 1) piece)))
           ∙ ap (λ k. playAll d (outOf line p k)) (sym n) ∙ f .desk-same;
     }
 
-module _ {piece line₀ : List ℕ} {p₀ : Place} {d₀ : Desk} {line : List ℕ} {p : Place} {d : Desk} {i : ℕ} (f : Feeding piece line₀ p₀ d₀ line p d i) (l : length piece ≤ i) where
+module _ {piece line₀ : List ℕ} {p₀ : Place} {d₀ : Desk} {line : List ℕ} {p : Place} {d : Desk} {i : ℕ}
+    (f : Feeding piece line₀ p₀ d₀ line p d i) (l : length piece ≤ i) where
   none-left : drop i piece ≡ []
   none-left = drop-of-length-le piece l
 

@@ -1,4 +1,5 @@
--- One record on the words: one law for each return, what the tests and the callees have told put together as the definition says it. Assumes nothing.
+-- One record on the words: one law for each return, what the tests and the callees have told put together as the definition says it.
+-- Assumes nothing.
 use mathlib.Core.Bool.{Bool, true, false, not, _&&_}
 use mathlib.Core.List.{List, _++_}
 use mathlib.Core.Path.{_≡_, refl, sym, ap, _∙_}
@@ -59,7 +60,8 @@ module _ (words : ℕ) (r v : List ℕ) (c : Call) {x : Bool} (e : x ≡ isReady
   call-lost q s = ap (λ z. scene z r v) s ∙ sym (rw (sym e ∙ q) refl)
 
   -- the part lent is `&mut w[0..words]`
-  pub call-heard : (a : Answer) (r′ w′ : List ℕ) {p : Played} → x ≡ true → told a r′ w′ ≡ callB wide r (take (words - 0) v) c → p ≡ shown words a
+  pub call-heard : (a : Answer) (r′ w′ : List ℕ) {p : Played} → x ≡ true → told a r′ w′ ≡ callB wide r (take (words - 0) v) c
+      → p ≡ shown words a
       → scene p r′ (w′ ++ drop (words - 0) v) ≡ callOn words r v c
   unfolding callOn
   call-heard a r′ w′ t q s =
@@ -88,24 +90,29 @@ back x m w v n = ap (λ z. scene x m (w ++ drop z v)) (less-none n)
 
 module _ (words : ℕ) (r v : List ℕ) (n : ℕ) (a : Said.Answer) (d : Control) (w′ : List ℕ) (l : n ≤ length v)
     (q : ends (answerOf a) d w′ ≡ setUpA wide (take (n - 0) v)) {p : Played} where
-  pub set-up-done : {m : List ℕ} → a ≡ Done → m ≡ image d → p ≡ shown n (answerOf a) → scene p m (w′ ++ drop (n - 0) v) ≡ setUpOf words r v n
+  pub set-up-done : {m : List ℕ} → a ≡ Done → m ≡ image d → p ≡ shown n (answerOf a)
+      → scene p m (w′ ++ drop (n - 0) v) ≡ setUpOf words r v n
   set-up-done {m} g i s =
-      back p m w′ v n ∙ ap (λ z. scene p z (w′ ++ drop n v)) i ∙ ap (λ z. scene z (image d) (w′ ++ drop n v)) (s ∙ ap (λ z. shown n (answerOf z)) g)
+      back p m w′ v n ∙ ap (λ z. scene p z (w′ ++ drop n v)) i
+      ∙ ap (λ z. scene z (image d) (w′ ++ drop n v)) (s ∙ ap (λ z. shown n (answerOf z)) g)
       ∙ set-up-heard words r v n done d w′ l (ap (λ z. ends (answerOf z) d w′) (sym g) ∙ q) refl
 
-  kept : (b : Said.Answer) → begun words r v n (ends (answerOf b) d w′) (answerOf b) ≡ scene (shown words (answerOf b)) r (w′ ++ drop n v) → a ≡ b
+  kept : (b : Said.Answer) → begun words r v n (ends (answerOf b) d w′) (answerOf b) ≡ scene (shown words (answerOf b)) r (w′ ++ drop n v)
+      → a ≡ b
       → p ≡ shown words (answerOf a) → scene p r (w′ ++ drop (n - 0) v) ≡ setUpOf words r v n
   kept b k g s =
       back p r w′ v n ∙ ap (λ z. scene z r (w′ ++ drop n v)) (s ∙ ap (λ z. shown words (answerOf z)) g) ∙ sym k
       ∙ set-up-heard words r v n (answerOf b) d w′ l (ap (λ z. ends (answerOf z) d w′) (sym g) ∙ q) refl
 
-  pub set-up-granted : {b : BlockOff} → a ≡ Granted b → p ≡ shown words (answerOf a) → scene p r (w′ ++ drop (n - 0) v) ≡ setUpOf words r v n
+  pub set-up-granted : {b : BlockOff} → a ≡ Granted b → p ≡ shown words (answerOf a)
+      → scene p r (w′ ++ drop (n - 0) v) ≡ setUpOf words r v n
   set-up-granted {b} g s = kept (Granted b) refl g s
 
   pub set-up-bytes : {k : ℕ} → a ≡ Bytes k → p ≡ shown words (answerOf a) → scene p r (w′ ++ drop (n - 0) v) ≡ setUpOf words r v n
   set-up-bytes {k} g s = kept (Bytes k) refl g s
 
-  pub set-up-refused : {why : Reason} → a ≡ Refused why → p ≡ shown words (answerOf a) → scene p r (w′ ++ drop (n - 0) v) ≡ setUpOf words r v n
+  pub set-up-refused : {why : Reason} → a ≡ Refused why → p ≡ shown words (answerOf a)
+      → scene p r (w′ ++ drop (n - 0) v) ≡ setUpOf words r v n
   set-up-refused {why} g s = kept (Refused why) refl g s
 
 -- ---- a record
@@ -132,4 +139,24 @@ module _ {e : Entry} (words : ℕ) (r v : List ℕ) {s : Scene} where
 pub play-odd : {e : Entry} (words : ℕ) (r v : List ℕ) {p : Played} → e ≡ Odd → p ≡ said words 9 0 → scene p r v ≡ playB e words r v
 play-odd words r v g q = ap (λ z. scene z r v) q ∙ ap (λ z. playB z words r v) (sym g)
 
-pub ruleset laws = (shown-is, ready-none, ready-is, ready-room, call-lost, call-heard, set-up-far, set-up-done, set-up-granted, set-up-bytes, set-up-refused, play-setup, play-malloc, play-free, play-realloc, play-memalign, play-odd, not-true, not-false)
+pub ruleset laws = (
+  shown-is,
+  ready-none,
+  ready-is,
+  ready-room,
+  call-lost,
+  call-heard,
+  set-up-far,
+  set-up-done,
+  set-up-granted,
+  set-up-bytes,
+  set-up-refused,
+  play-setup,
+  play-malloc,
+  play-free,
+  play-realloc,
+  play-memalign,
+  play-odd,
+  not-true,
+  not-false,
+)

@@ -2,6 +2,8 @@
 use mathlib.Core.List.{List, [], _∷_, _++_}
 use mathlib.Core.Path.{_≡_, refl}
 use Prim.Native.Nat.{ℕ}
+use Rattle.index.specs.Sizes.{roundUp, need, needWords}
+use Rattle.rules.specs.BinOf.{huge}
 use Rattle.log.specs.Decimals.{decimal, decimalIn, grown, digitRead, numberFrom, numberOf}
 use Rattle.log.specs.Grammar.{kindOf, oneNumber, called, readRecord}
 use Rattle.log.specs.Cutting.{records, entries}
@@ -25,5 +27,6 @@ answer =
     ++ (52 ∷ 44 ∷ 53 ∷ 44 ∷ 48 ∷ crlf)))
 
 pub example : replayed log ≡ header ++ answer
-unfolding replayed linesFrom answerLine decimal decimalIn entries records readRecord called kindOf oneNumber numberOf numberFrom digitRead grown
+unfolding replayed linesFrom answerLine decimal decimalIn entries records readRecord called kindOf oneNumber numberOf
+    numberFrom digitRead grown needWords need roundUp huge
 example = refl

@@ -1,5 +1,5 @@
--- THE RUN over records: the words of the arena at work, its record and buffer, the records answered, and the lines in the buffer for them, for all inputs.
--- Which records a piece of the log hands out is said by `log`, `Cutting`. Assumes nothing.
+-- THE RUN over records: the words of the arena at work, its record and buffer, the records answered, and the lines in the buffer for them,
+-- for all inputs. Which records a piece of the log hands out is said by `log`, `Cutting`. Assumes nothing.
 use mathlib.Core.Bool.{false}
 use mathlib.Core.List.{List, [], _∷_}
 use Prim.Native.Nat.{ℕ, _+_, _%_, _^_}

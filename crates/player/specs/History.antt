@@ -1,5 +1,6 @@
--- THE ANSWERS ARE THOSE OF A HISTORY: from a granted set-up on, up to the next granted one, the calls' lines say what the calls of `arena` answer one after the other
--- on an arena of that many words, whatever it held before (`as-a-history`); none says 2 (`never-unsound`). By `from-set-up`. Assumes nothing.
+-- THE ANSWERS ARE THOSE OF A HISTORY: from a granted set-up on, up to the next granted one, the calls' lines say what the calls of `arena`
+-- answer one after the other on an arena of that many words, whatever it held before (`as-a-history`); none says 2 (`never-unsound`). By
+-- `from-set-up`. Assumes nothing.
 use mathlib.Core.Bool.{Bool, true, false}
 use mathlib.Core.List.{List, [], _∷_, map}
 use mathlib.Core.Option.{Option, none, some}
@@ -13,7 +14,8 @@ use Rattle.words.specs.Edition.{wide, W}
 use Rattle.index.specs.Sizes.{needWords}
 use Rattle.rules.specs.Heap.{Heap, freshHeap}
 use Rattle.rules.specs.Calls as rules
-use Rattle.rules.specs.Calls.{Call, Answer, Outcome, allowedCount, isIn, alignments, placeOf, liveSize, grantOr6, movedOr6, freeCall, reallocCall, usableCall, unlessTooMany, answerTo}
+use Rattle.rules.specs.Calls.{Call, Answer, Outcome, allowedCount, isIn, alignments, placeOf, liveSize, grantOr6, movedOr6, freeCall}
+use Rattle.rules.specs.Calls.{reallocCall, usableCall, unlessTooMany, answerTo}
 use Rattle.rules.specs.Malloc.{Grant, malloc}
 use Rattle.rules.specs.Realloc.{realloc}
 use Rattle.rules.specs.Memalign.{memalign}
@@ -71,10 +73,14 @@ lines-ruled : (n : ℕ) (h : Heap) (es : List Entry) → NoneGranted es → call
 lines-ruled n h [] g = refl
 lines-ruled n h (Odd ∷ es) g = lines-ruled n h es g
 lines-ruled n h (Setup k ∷ es) g = ap (λ s. callLines s es) (stays (busy n h) k (g .0)) ∙ lines-ruled n h es (g .1)
-lines-ruled n h (Malloc k ∷ es) g = ap (λ z. told (lineOf (busy n h) (Malloc k)) ∷ z) (lines-ruled n (answerTo wide n h (rules.Malloc k) .heap) es g)
-lines-ruled n h (Free off ∷ es) g = ap (λ z. told (lineOf (busy n h) (Free off)) ∷ z) (lines-ruled n (answerTo wide n h (rules.Free off) .heap) es g)
-lines-ruled n h (Realloc off k ∷ es) g = ap (λ z. told (lineOf (busy n h) (Realloc off k)) ∷ z) (lines-ruled n (answerTo wide n h (rules.Realloc off k) .heap) es g)
-lines-ruled n h (Memalign a k ∷ es) g = ap (λ z. told (lineOf (busy n h) (Memalign a k)) ∷ z) (lines-ruled n (answerTo wide n h (rules.Memalign a k) .heap) es g)
+lines-ruled n h (Malloc k ∷ es) g = ap (λ z. told (lineOf (busy n h) (Malloc k)) ∷ z)
+    (lines-ruled n (answerTo wide n h (rules.Malloc k) .heap) es g)
+lines-ruled n h (Free off ∷ es) g = ap (λ z. told (lineOf (busy n h) (Free off)) ∷ z)
+    (lines-ruled n (answerTo wide n h (rules.Free off) .heap) es g)
+lines-ruled n h (Realloc off k ∷ es) g = ap (λ z. told (lineOf (busy n h) (Realloc off k)) ∷ z)
+    (lines-ruled n (answerTo wide n h (rules.Realloc off k) .heap) es g)
+lines-ruled n h (Memalign a k ∷ es) g = ap (λ z. told (lineOf (busy n h) (Memalign a k)) ∷ z)
+    (lines-ruled n (answerTo wide n h (rules.Memalign a k) .heap) es g)
 
 -- "a granted one starts demand 3's history anew"
 pub as-a-history : (w : List ℕ) → length w % 2 ≡ 0 → 16 ≤ length w → length w ≤ 8192 → (es : List Entry) → NoneGranted es
@@ -82,7 +88,8 @@ pub as-a-history : (w : List ℕ) → length w % 2 ≡ 0 → 16 ≤ length w →
 as-a-history w a b c es g =
     let same : length (setUpOn wide w .words) ≡ length w = simp length-set refl in
     lines-ruled (length w) (freshHeap (length w)) es g
-    ∙ ap (map says) (ap (λ k. ruled wide k (freshHeap (length w)) (events es)) (sym same) ∙ sym (from-set-up wide w a b c (events es) .answered))
+    ∙ ap (map says) (ap (λ k. ruled wide k (freshHeap (length w)) (events es)) (sym same)
+    ∙ sym (from-set-up wide w a b c (events es) .answered))
 
 -- ---- none says 2 from the first granted set-up on
 
@@ -114,12 +121,15 @@ module _ (n : ℕ) (h : Heap) where
   realloc-sure (some t) off k = move-sure (placeOf wide off) t (realloc wide h (placeOf wide off) (needWords (W wide) k))
 
   pub sure : (c : Call) → Sure (answerTo wide n h c .answer)
-  sure (rules.Malloc k) = few-sure k (grantOr6 wide h (malloc wide h (needWords (W wide) k))) (grant-sure (malloc wide h (needWords (W wide) k)))
+  sure (rules.Malloc k) = few-sure k (grantOr6 wide h (malloc wide h (needWords (W wide) k)))
+      (grant-sure (malloc wide h (needWords (W wide) k)))
   sure (rules.Free off) = free-sure (liveSize wide 0 (h .chunks) off) off
-  sure (rules.Realloc off k) = few-sure k (reallocCall wide h (liveSize wide 0 (h .chunks) off) off k) (realloc-sure (liveSize wide 0 (h .chunks) off) off k)
+  sure (rules.Realloc off k) = few-sure k (reallocCall wide h (liveSize wide 0 (h .chunks) off) off k)
+      (realloc-sure (liveSize wide 0 (h .chunks) off) off k)
   sure (rules.Memalign al k) =
       pick-case (λ (x : Outcome). Sure (x .answer)) (isIn al (alignments wide))
-      (λ z. few-sure k (grantOr6 wide h (memalign wide h (al / W wide) (needWords (W wide) k))) (grant-sure (memalign wide h (al / W wide) (needWords (W wide) k))))
+      (λ z. few-sure k (grantOr6 wide h (memalign wide h (al / W wide) (needWords (W wide) k)))
+      (grant-sure (memalign wide h (al / W wide) (needWords (W wide) k))))
       (λ z q. omega (arith, q))
   sure (rules.Usable off) = usable-sure (liveSize wide 0 (h .chunks) off) off
 
@@ -131,8 +141,12 @@ pub never-unsound : (n : ℕ) (h : Heap) (es : List Entry) → NoneTwo (callLine
 never-unsound n h [] = tt
 never-unsound n h (Odd ∷ es) = never-unsound n h es
 never-unsound n h (Setup k ∷ es) =
-    pick-case (λ (x : Line). NoneTwo (callLines (x .work) es)) (allowedCount k) (λ z. never-unsound k (freshHeap k) es) (λ z. never-unsound n h es)
+    pick-case (λ (x : Line). NoneTwo (callLines (x .work) es)) (allowedCount k) (λ z. never-unsound k (freshHeap k) es)
+    (λ z. never-unsound n h es)
 never-unsound n h (Malloc k ∷ es) = (sure n h (rules.Malloc k), never-unsound n (answerTo wide n h (rules.Malloc k) .heap) es)
 never-unsound n h (Free off ∷ es) = (sure n h (rules.Free off), never-unsound n (answerTo wide n h (rules.Free off) .heap) es)
-never-unsound n h (Realloc off k ∷ es) = (sure n h (rules.Realloc off k), never-unsound n (answerTo wide n h (rules.Realloc off k) .heap) es)
+never-unsound n h (Realloc off k ∷ es) = (
+  sure n h (rules.Realloc off k),
+  never-unsound n (answerTo wide n h (rules.Realloc off k) .heap) es,
+)
 never-unsound n h (Memalign a k ∷ es) = (sure n h (rules.Memalign a k), never-unsound n (answerTo wide n h (rules.Memalign a k) .heap) es)

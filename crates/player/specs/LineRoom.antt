@@ -1,4 +1,5 @@
--- A LINE TAKES AT MOST 64 BYTES: its three numbers fit a word, whatever was played; so with room for 64 it stands whole behind the others. Assumes nothing.
+-- A LINE TAKES AT MOST 64 BYTES: its three numbers fit a word, whatever was played; so with room for 64 it stands whole behind the others.
+-- Assumes nothing.
 use mathlib.Core.List.{List, [], _∷_, _++_}
 use mathlib.Core.Path.{_≡_, refl, sym, ap, _∙_}
 use Prim.Native.Nat.{ℕ, _+_, _*_, _%_, _^_, _≤_, _<_}
@@ -11,7 +12,8 @@ use Rattle.words.specs.Logic.{pick, pick-case}
 use Rattle.words.specs.Edition.{wide, W, noLink}
 use Rattle.index.specs.Sizes.{need}
 use Rattle.rules.specs.Calls as rules
-use Rattle.rules.specs.Calls.{Call, Malloc, Free, Realloc, Memalign, Usable, Reason, bad-count, unsound, bad-alignment, too-many, not-live, no-room, Answer, granted, done, bytes, refused, allowedCount, isIn, alignments}
+use Rattle.rules.specs.Calls.{Call, Malloc, Free, Realloc, Memalign, Usable, Reason, bad-count, unsound, bad-alignment, too-many, not-live}
+use Rattle.rules.specs.Calls.{no-room, Answer, granted, done, bytes, refused, allowedCount, isIn, alignments}
 use Rattle.malloc.specs.MallocBytes.{Reply, mallocB}
 use Rattle.realloc.specs.ReallocBytes.{reallocB}
 use Rattle.memalign.specs.MemalignBytes.{memalignB}
@@ -67,7 +69,7 @@ module _ (r w : List ℕ) where
   core-small (Malloc n) = few n _ (granting (mallocB wide r w (need (W wide) n)))
   core-small (Free off) = live off _ (omega arith)
   core-small (Realloc off n) = few n _ (live off _ (granting (reallocB wide r w (chunkAt wide off) (need (W wide) n))))
-  core-small (Memalign al n) = pick-case (λ (x : Told). Small (x .answer)) (isIn al (alignments wide)) 
+  core-small (Memalign al n) = pick-case (λ (x : Told). Small (x .answer)) (isIn al (alignments wide))
       (λ z. few n _ (granting (memalignB wide r w al (need (W wide) n)))) (λ z. no bad-alignment)
   core-small (Usable off) = live off _ (omega arith)
 
@@ -119,7 +121,10 @@ module _ (k n off : ℕ) where
   unfolding answerLine
   line-length =
       let a : length (decimal off ++ crlf) ≡ length (decimal off) + 2 = length-append (decimal off) crlf in
-      let b : length (decimal n ++ comma ∷ (decimal off ++ crlf)) ≡ length (decimal n) + (1 + (length (decimal off) + 2)) = length-append (decimal n) (comma ∷ (decimal off ++ crlf)) ∙ (let z : length (decimal n) + length (comma ∷ (decimal off ++ crlf)) ≡ length (decimal n) + (1 + (length (decimal off) + 2)) = omega (arith, a) in z) in
+      let b : length (decimal n ++ comma ∷ (decimal off ++ crlf)) ≡ length (decimal n) + (1 + (length (decimal off) + 2)) =
+      length-append (decimal n) (comma ∷ (decimal off ++ crlf))
+      ∙ (let z : length (decimal n) + length (comma ∷ (decimal off ++ crlf)) ≡ length (decimal n) + (1 + (length (decimal off) + 2)) =
+      omega (arith, a) in z) in
       let c = length-append (decimal k) (comma ∷ (decimal n ++ comma ∷ (decimal off ++ crlf))) in
       omega (arith, b, c)
 
@@ -146,4 +151,5 @@ module _ (k n off : ℕ) where
         ap (λ z. take z (linePut out at k n off)) end
         ∙ ap (take (at + length (answerLine k n off))) (put ∙ sets-eq (answerLine k n off) out at (omega (arith, room, short)))
         ∙ take-at (take at out ++ answerLine k n off) (drop (at + length (answerLine k n off)) out) (at + length (answerLine k n off))
-        (length-append (take at out) (answerLine k n off) ∙ ap (λ z. z + length (answerLine k n off)) (length-take-le at out (omega (arith, room))))
+        (length-append (take at out) (answerLine k n off)
+        ∙ ap (λ z. z + length (answerLine k n off)) (length-take-le at out (omega (arith, room))))

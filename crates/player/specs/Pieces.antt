@@ -1,5 +1,6 @@
--- THE OUTPUT IS `replayed` OF THE LOG, WHATEVER THE PIECES (`whole`). What a program writes that begins, feeds the pieces one after the other, writes after each what
--- stands in the buffer, and at last the end's line, is said with the contracts' own definitions (`output`). Assumes nothing.
+-- THE OUTPUT IS `replayed` OF THE LOG, WHATEVER THE PIECES (`whole`). What a program writes that begins, feeds the pieces one after the
+-- other, writes after each what stands in the buffer, and at last the end's line, is said with the contracts' own definitions (`output`).
+-- Assumes nothing.
 use mathlib.Core.Bool.{false}
 use mathlib.Core.List.{List, [], _∷_, _++_, flatten, append-nil, append-assoc}
 use mathlib.Core.Path.{_≡_, refl, sym, ap, _∙_, subst}
@@ -41,7 +42,8 @@ written line p d (x ∷ xs) =
 -- from `start` on, with a line for the record at hand, words for the arena's record, a buffer of words and one of lines
 unfoldable pub output : List ℕ → List ℕ → List ℕ → List ℕ → List (List ℕ) → List ℕ
 output line im v out xs =
-    take (headerEnd out) (headerPut out) ++ written line (fresh (headerEnd out) .place) (desk (fresh (headerEnd out) .run) im v (headerPut out)) xs
+    take (headerEnd out) (headerPut out) ++ written line (fresh (headerEnd out) .place)
+    (desk (fresh (headerEnd out) .run) im v (headerPut out)) xs
 
 -- none is longer than m
 abbrev pub Short : ℕ → List (List ℕ) → Type 0
@@ -97,7 +99,8 @@ abbrev pub workAfter : Work → List Entry → Work
 workAfter s [] = s
 workAfter s (e ∷ es) = workAfter (r.lineOf s e .work) es
 
-pub all-wrote : (d : Desk) (k : ℕ) (s : Work) (es : List Entry) → On d k s → k + length es < 2 ^ 64 → d .run .at + 64 * length es ≤ length (d .out)
+pub all-wrote : (d : Desk) (k : ℕ) (s : Work) (es : List Entry) → On d k s → k + length es < 2 ^ 64
+    → d .run .at + 64 * length es ≤ length (d .out)
     → Wrote d (playAll d es) (length es) (k + length es) (workAfter s es) (linesFrom (k + 1) s es)
 unfolding playAll linesFrom
 all-wrote d k s [] o l room =
@@ -117,12 +120,14 @@ all-wrote d k s (e ∷ es) o l room =
       long = b .long ∙ a .long;
     }
 
-pub lines-append : (k : ℕ) (s : Work) (es fs : List Entry) → linesFrom k s (es ++ fs) ≡ linesFrom k s es ++ linesFrom (k + length es) (workAfter s es) fs
+pub lines-append : (k : ℕ) (s : Work) (es fs : List Entry)
+    → linesFrom k s (es ++ fs) ≡ linesFrom k s es ++ linesFrom (k + length es) (workAfter s es) fs
 unfolding linesFrom
 lines-append k s [] fs = ap (λ n. linesFrom n s fs) (sym (add-zero k))
 lines-append k s (e ∷ es) fs =
     ap (λ z. answerLine k (r.lineOf s e .refusal) (r.lineOf s e .offset) ++ z) (lines-append (k + 1) (r.lineOf s e .work) es fs
-    ∙ ap (λ n. linesFrom (k + 1) (r.lineOf s e .work) es ++ linesFrom n (workAfter s (e ∷ es)) fs) (let z : k + 1 + length es ≡ k + suc (length es) = omega arith in z))
+    ∙ ap (λ n. linesFrom (k + 1) (r.lineOf s e .work) es ++ linesFrom n (workAfter s (e ∷ es)) fs)
+    (let z : k + 1 + length es ≡ k + suc (length es) = omega arith in z))
     ∙ sym (append-assoc (answerLine k (r.lineOf s e .refusal) (r.lineOf s e .offset)) _ _)
 
 -- ---- pieces
@@ -136,7 +141,11 @@ out-short : (line : List ℕ) (p : Place) (x : List ℕ) → length (outOf line 
 unfolding outOf
 out-short line p [] = omega arith
 out-short line p (b ∷ bs) =
-    omega (arith, hand-short (stepAt line p b .got) (outOf (lineAfter line p b) (stepAt line p b .place) bs), out-short (lineAfter line p b) (stepAt line p b .place) bs)
+    omega (
+      arith,
+      hand-short (stepAt line p b .got) (outOf (lineAfter line p b) (stepAt line p b .place) bs),
+      out-short (lineAfter line p b) (stepAt line p b .place) bs,
+    )
 
 end-is : (d : Desk) (k : ℕ) (s : Work) (g : Got) → On d k s → k + 1 < 2 ^ 64 → 64 ≤ length (d .out)
     → shown (handedOut (cleared d) g) ≡ linesFrom (k + 1) s (handOut g [])
@@ -156,11 +165,14 @@ written-is m line p d k s (x ∷ xs) o n room sh l =
     let f = out-short line p x in
     let j = length-append x (flatten xs) in
     let w = all-wrote (cleared d) k s (outOf line p x) (record { lines = o .lines; room = o .room; stands = o .stands })
-        (omega (arith, f, j, l)) (omega (arith, f, room, sh .0)) in
-    let ih = written-is m (lineOf line p x) (placeOf line p x) (playAll (cleared d) (outOf line p x)) (k + length (outOf line p x)) (workAfter s (outOf line p x)) xs (w .on) n
-        (omega (arith, w .long, room)) (sh .1) (omega (arith, f, j, l)) in
+    (omega (arith, f, j, l)) (omega (arith, f, room, sh .0)) in
+    let ih = written-is m (lineOf line p x) (placeOf line p x) (playAll (cleared d) (outOf line p x)) (k + length (outOf line p x))
+    (workAfter s (outOf line p x)) xs (w .on) n
+    (omega (arith, w .long, room)) (sh .1) (omega (arith, f, j, l)) in
     ap (λ z. z ++ written (lineOf line p x) (placeOf line p x) (playAll (cleared d) (outOf line p x)) xs) (w .shows)
-    ∙ ap (λ z. linesFrom (k + 1) s (outOf line p x) ++ z) (ih ∙ ap (λ z. linesFrom z (workAfter s (outOf line p x)) (handed (lineOf line p x) (placeOf line p x) (flatten xs))) (let z : k + length (outOf line p x) + 1 ≡ k + 1 + length (outOf line p x) = omega arith in z))
+    ∙ ap (λ z. linesFrom (k + 1) s (outOf line p x) ++ z) (ih
+    ∙ ap (λ z. linesFrom z (workAfter s (outOf line p x)) (handed (lineOf line p x) (placeOf line p x) (flatten xs)))
+    (let z : k + length (outOf line p x) + 1 ≡ k + 1 + length (outOf line p x) = omega arith in z))
     ∙ sym (lines-append (k + 1) s (outOf line p x) (handed (lineOf line p x) (placeOf line p x) (flatten xs)))
     ∙ ap (linesFrom (k + 1) s) (sym (in-pieces line p x (flatten xs)))
 
@@ -185,13 +197,16 @@ module _ (out : List ℕ) (l : 64 ≤ length out) where
 
 -- ---- the whole
 
--- a line of 64 bytes, a buffer of 8,192 words, one of 64 bytes for each byte of the longest piece, pieces of any other kind, a log of fewer than 2^64 - 1 bytes
-pub whole : (m : ℕ) (line im v out : List ℕ) (xs : List (List ℕ)) → length line ≡ 64 → 8192 ≤ length v → 1 ≤ m → 64 * m ≤ length out → Short m xs
+-- a line of 64 bytes, a buffer of 8,192 words, one of 64 bytes for each byte of the longest piece, pieces of any other kind, a log of fewer
+-- than 2^64 - 1 bytes
+pub whole : (m : ℕ) (line im v out : List ℕ) (xs : List (List ℕ)) → length line ≡ 64 → 8192 ≤ length v → 1 ≤ m → 64 * m ≤ length out
+    → Short m xs
     → length (flatten xs) + 1 < 2 ^ 64 → output line im v out xs ≡ replayed (flatten xs)
 unfolding output replayed
 whole m line im v out xs a b n room sh l =
     let f : 64 ≤ length out = omega (arith, n, room) in
     ap (λ z. z ++ written line (fresh (headerEnd out) .place) (desk (fresh (headerEnd out) .run) im v (headerPut out)) xs) (head-text out f)
-    ∙ ap (λ z. header ++ z) (written-is m line (fresh (headerEnd out) .place) (desk (fresh (headerEnd out) .run) im v (headerPut out)) 0 idle xs
-        (record { lines = refl; room = b; stands = refl }) n (omega (arith, room, head-long out f)) sh (omega (arith, l))
+    ∙ ap (λ z. header ++ z) (written-is m line (fresh (headerEnd out) .place)
+    (desk (fresh (headerEnd out) .run) im v (headerPut out)) 0 idle xs
+    (record { lines = refl; room = b; stands = refl }) n (omega (arith, room, head-long out f)) sh (omega (arith, l))
     ∙ ap (linesFrom 1 idle) (cut-whole line (flatten xs) a))

@@ -1,5 +1,5 @@
--- ONE RECORD ON THE WORDS: what its line says, and what is left in the arena record's 72 words and in the lent buffer, whose first words are the arena's,
--- for all inputs. Assumes nothing.
+-- ONE RECORD ON THE WORDS: what its line says, and what is left in the arena record's 72 words and in the lent buffer, whose first words
+-- are the arena's, for all inputs. Assumes nothing.
 use mathlib.Core.Bool.{Bool, not, _&&_}
 use mathlib.Core.List.{List, _++_}
 use Prim.Native.Nat.{ℕ}

@@ -1,5 +1,5 @@
--- ONE RECORD DOES WHAT THE DEFINITION SAYS: where the words stand for the work, a record's line is the definition's, and the words then stand for its work.
--- By `call-obeys`, the check that is exact, and what a set-up holds. Assumes nothing.
+-- ONE RECORD DOES WHAT THE DEFINITION SAYS: where the words stand for the work, a record's line is the definition's, and the words then
+-- stand for its work. By `call-obeys`, the check that is exact, and what a set-up holds. Assumes nothing.
 use mathlib.Core.Bool.{Bool, true, false, _&&_}
 use mathlib.Core.List.{List, [], _∷_, _++_}
 use mathlib.Core.Logic.{⊎-elim}
@@ -63,7 +63,8 @@ module _ (n : ℕ) (h : Heap) (r v : List ℕ) (room : n ≤ length v) where
         stands = record {
           count = refl;
           room = omega (arith, long, room);
-          held = subst (λ (w : List ℕ). Held wide (t .image) w (o .heap) []) (sym (take-at (t .words) (drop n v) n (f .count ∙ part))) (f .held);
+          held = subst (λ (w : List ℕ). Held wide (t .image) w (o .heap) []) (sym (take-at (t .words) (drop n v) n (f .count ∙ part)))
+              (f .held);
         };
         long = long;
       }
@@ -87,7 +88,8 @@ module _ (n : ℕ) (h : Heap) (r v : List ℕ) (room : n ≤ length v) where
 pub calls-play : (s : Work) (words : ℕ) (r v : List ℕ) → Stands s words r v → (c : Call) → Plays (called s c) v (callOn words r v c)
 unfolding callOn isReady
 calls-play idle words r v q c = rw q (record { refusal = refl; offset = refl; stands = refl; long = refl })
-calls-play (busy n h) words r v d c = subst (λ (k : ℕ). Plays (called (busy n h) c) v (callOn k r v c)) (sym (d .count)) (call-plays n h r v (d .room) (d .held) c)
+calls-play (busy n h) words r v d c = subst (λ (k : ℕ). Plays (called (busy n h) c) v (callOn k r v c)) (sym (d .count))
+    (call-plays n h r v (d .room) (d .held) c)
 
 -- ---- set-up
 
@@ -124,7 +126,8 @@ module _ (s : Work) (words : ℕ) (r v : List ℕ) (n : ℕ) where
     is-set q = rw (ap allowedCount (length-take-le n v l) ∙ q) refl
 
     left : allowedCount n ≡ false → setUpOf words r v n ≡ scene (said words 1 0) r v
-    left q = near (ends (refused bad-count) (emptyControl wide (noLink wide) 0 0) (take n v)) (not-set q) ∙ ap (scene (said words 1 0) r) (take-append-drop n v)
+    left q = near (ends (refused bad-count) (emptyControl wide (noLink wide) 0 0) (take n v)) (not-set q)
+        ∙ ap (scene (said words 1 0) r) (take-append-drop n v)
 
   module _ (d : Stands s words r v) where
     still : Plays (line 1 0 s) v (scene (said words 1 0) r v)
@@ -158,7 +161,8 @@ module _ (s : Work) (words : ℕ) (r v : List ℕ) (n : ℕ) where
         let a = allowed n q in
         subst (λ (k : ℕ). Held wide (image control) fresh (freshHeap k) []) (length-take-le n v l)
         (held-image wide control fresh (freshHeap (length (take n v))) []
-        (fresh-holds wide (take n v) (omega (arith, length-take-le n v l, a .0)) (omega (arith, length-take-le n v l, a .1)) (omega (arith, length-take-le n v l, a .2))))
+        (fresh-holds wide (take n v) (omega (arith, length-take-le n v l, a .0)) (omega (arith, length-take-le n v l, a .1))
+        (omega (arith, length-take-le n v l, a .2))))
 
     begins : Plays (line 0 0 (busy n (freshHeap n))) v (scene (said n 0 0) (image control) (fresh ++ drop n v))
     begins =
@@ -189,7 +193,8 @@ module _ (s : Work) (words : ℕ) (r v : List ℕ) (n : ℕ) where
 
 -- ---- a record
 
-pub plays : (s : Work) (e : Entry) (words : ℕ) (r v : List ℕ) → 8192 ≤ length v → Stands s words r v → Plays (lineOf s e) v (playB e words r v)
+pub plays : (s : Work) (e : Entry) (words : ℕ) (r v : List ℕ) → 8192 ≤ length v → Stands s words r v
+    → Plays (lineOf s e) v (playB e words r v)
 plays s (Setup n) words r v l d = set-up-plays s words r v n d l
 plays s (Malloc n) words r v l d = calls-play s words r v d (rules.Malloc n)
 plays s (Free off) words r v l d = calls-play s words r v d (rules.Free off)

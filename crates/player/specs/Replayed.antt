@@ -1,4 +1,5 @@
--- THE OUTPUT AS A FUNCTION OF THE LOG, document 02 (viii), by the rules alone: no word of an arena, no byte step, no piece. Assumes nothing.
+-- THE OUTPUT AS A FUNCTION OF THE LOG, document 02 (viii), by the rules alone: no word of an arena, no byte step, no piece. Assumes
+-- nothing.
 use mathlib.Core.List.{List, [], _∷_, _++_}
 use Prim.Native.Nat.{ℕ, _+_}
 use Rattle.words.specs.Logic.{pick}
@@ -42,8 +43,8 @@ abbrev pub called : Work → Call → Line
 called idle c = line 2 0 idle
 called (busy n h) c = after n (answerTo wide n h c)
 
--- "a set-up of more words answers 1", as does any count that is not allowed. "A refused set-up leaves the arena at work as it is; a granted one
--- starts [the] history anew"
+-- "a set-up of more words answers 1", as does any count that is not allowed. "A refused set-up leaves the arena at work as it is; a granted
+-- one starts [the] history anew"
 abbrev pub setUp : Work → ℕ → Line
 setUp s n = pick (allowedCount n) (line 0 0 (busy n (freshHeap n))) (line 1 0 s)
 

@@ -54,7 +54,8 @@ fn emptied(run: Run) -> Run
 
 // One record: its call, and its line.
 pub fn tell(e: Entry, run: Run, r: &mut [u64; 72], w: &mut [u64], out: &mut [u8]) -> Run
-    ensures { λ x. ⌜ desk x (now (r .exit)) (now (w .exit)) (now (out .exit)) ≡ tellB (desk run (now (r .entry)) (now (w .entry)) (now (out .entry))) e ⌝ }
+    ensures { λ x. ⌜ desk x (now (r .exit)) (now (w .exit)) (now (out .exit))
+        ≡ tellB (desk run (now (r .entry)) (now (w .entry)) (now (out .entry))) e ⌝ }
 {
     let x = play(e, run.words, r, w);
     let line = std::num::wrapping_add_u64(run.lines, 1);
@@ -67,7 +68,8 @@ pub fn tell(e: Entry, run: Run, r: &mut [u64; 72], w: &mut [u64], out: &mut [u8]
 }
 
 fn hand_out(g: Got, run: Run, r: &mut [u64; 72], w: &mut [u64], out: &mut [u8]) -> Run
-    ensures { λ x. ⌜ desk x (now (r .exit)) (now (w .exit)) (now (out .exit)) ≡ handedOut (desk run (now (r .entry)) (now (w .entry)) (now (out .entry))) g ⌝ }
+    ensures { λ x. ⌜ desk x (now (r .exit)) (now (w .exit)) (now (out .exit))
+        ≡ handedOut (desk run (now (r .entry)) (now (w .entry)) (now (out .entry))) g ⌝ }
 {
     match g {
         Got::Nothing => run,
@@ -79,7 +81,9 @@ fn hand_out(g: Got, run: Run, r: &mut [u64; 72], w: &mut [u64], out: &mut [u8]) 
 fn take(b: u8, from: Fed, line: &mut [u8], r: &mut [u64; 72], w: &mut [u64], out: &mut [u8]) -> Fed
     ensures { λ x. ⌜ now (line .exit) ≡ lineAfter (now (line .entry)) (from .place) b ⌝ }
     ensures { λ x. ⌜ x .place ≡ stepAt (now (line .entry)) (from .place) b .place ⌝ }
-    ensures { λ x. ⌜ desk (x .run) (now (r .exit)) (now (w .exit)) (now (out .exit)) ≡ handedOut (desk (from .run) (now (r .entry)) (now (w .entry)) (now (out .entry))) (stepAt (now (line .entry)) (from .place) b .got) ⌝ }
+    ensures { λ x. ⌜ desk (x .run) (now (r .exit)) (now (w .exit)) (now (out .exit))
+        ≡ handedOut (desk (from .run) (now (r .entry)) (now (w .entry)) (now (out .entry)))
+        (stepAt (now (line .entry)) (from .place) b .got) ⌝ }
 {
     let p = from.place;
     let run = from.run;
@@ -104,7 +108,9 @@ pub fn feed(
 ) -> Fed
     ensures { λ x. ⌜ now (line .exit) ≡ lineOf (now (line .entry)) (from .place) (now (piece .entry)) ⌝ }
     ensures { λ x. ⌜ x .place ≡ placeOf (now (line .entry)) (from .place) (now (piece .entry)) ⌝ }
-    ensures { λ x. ⌜ desk (x .run) (now (r .exit)) (now (w .exit)) (now (out .exit)) ≡ playAll (desk (emptied (from .run)) (now (r .entry)) (now (w .entry)) (now (out .entry))) (outOf (now (line .entry)) (from .place) (now (piece .entry))) ⌝ }
+    ensures { λ x. ⌜ desk (x .run) (now (r .exit)) (now (w .exit)) (now (out .exit))
+        ≡ playAll (desk (emptied (from .run)) (now (r .entry)) (now (w .entry)) (now (out .entry)))
+        (outOf (now (line .entry)) (from .place) (now (piece .entry))) ⌝ }
 {
     let place = from.place;
     let run = from.run;
@@ -123,7 +129,9 @@ pub fn feed(
 // The log has ended: the last record may lack its CRLF.
 pub fn end(from: Fed, line: &mut [u8], r: &mut [u64; 72], w: &mut [u64], out: &mut [u8]) -> Run
     ensures { λ x. ⌜ now (line .exit) ≡ lineAtEnd (now (line .entry)) (from .place) ⌝ }
-    ensures { λ x. ⌜ desk x (now (r .exit)) (now (w .exit)) (now (out .exit)) ≡ handedOut (desk (emptied (from .run)) (now (r .entry)) (now (w .entry)) (now (out .entry))) (ending (now (line .entry)) (from .place)) ⌝ }
+    ensures { λ x. ⌜ desk x (now (r .exit)) (now (w .exit)) (now (out .exit))
+        ≡ handedOut (desk (emptied (from .run)) (now (r .entry)) (now (w .entry)) (now (out .entry)))
+        (ending (now (line .entry)) (from .place)) ⌝ }
 {
     let place = from.place;
     let run = from.run;

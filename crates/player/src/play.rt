@@ -1,4 +1,5 @@
-// One record of the log, played on the calls. The arena at work is the first words of a lent buffer; its record stands in 72 words beside it.
+// One record of the log, played on the calls. The arena at work is the first words of a lent buffer; its record stands in 72 words beside
+// it.
 ghost use mathlib.Core.Path.{_≡_};
 ghost use Rattle.rules.specs.Calls.{Malloc, Free, Realloc, Memalign};
 ghost use Rattle.arena.specs.Answers.{answerOf};

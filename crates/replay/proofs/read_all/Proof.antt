@@ -10,7 +10,8 @@ use Rattle.player.proofs.feed.feed.Reads as feed-reads
 use Rattle.replay.proofs.write_lines.Reads as write-lines-reads
 
 abbrev Inv-loop : tie.InvT-loop
-Inv-loop line₀ r₀ w₀ out₀ fed₀ piece₀ turns₀ line r w out fed piece turns = (length piece ≡ 1024) × (length line ≡ length line₀) × (length w ≡ length w₀) × (length out ≡ length out₀)
+Inv-loop line₀ r₀ w₀ out₀ fed₀ piece₀ turns₀ line r w out fed piece turns =
+    (length piece ≡ 1024) × (length line ≡ length line₀) × (length w ≡ length w₀) × (length out ≡ length out₀)
 
 abbrev μ-loop : tie.MeasureT-loop
 μ-loop line₀ r₀ w₀ out₀ fed₀ piece₀ turns₀ line r w out fed piece turns = turns

@@ -12,7 +12,8 @@ use Rattle.player.proofs.feed.emptied.Reads as emptied-reads
 use Rattle.player.proofs.feed.take.Reads as take-reads
 
 abbrev Inv-loop : tie.InvT-loop
-Inv-loop piece line₀ r₀ w₀ out₀ fed₀ i₀ line r w out fed i = Feeding piece line₀ (fed₀ .place) (desk (fed₀ .run) r₀ w₀ out₀) line (fed .place) (desk (fed .run) r w out) i
+Inv-loop piece line₀ r₀ w₀ out₀ fed₀ i₀ line r w out fed i =
+    Feeding piece line₀ (fed₀ .place) (desk (fed₀ .run) r₀ w₀ out₀) line (fed .place) (desk (fed .run) r w out) i
 
 abbrev μ-loop : tie.MeasureT-loop
 μ-loop piece line₀ r₀ w₀ out₀ fed₀ i₀ line r w out fed i = length piece - i
@@ -44,8 +45,14 @@ loop-less c = search needs
 -- src/feed.rt:123:5
 loop-again : tie.Need-loop-again Inv-loop μ-loop
 loop-again c =
-    feeding-turn (c .before .before .before .before .before .before .before .before .before .before .before .before .before .loop .inv) (c .before .before .before .before .before .before .before .before .before .before .before .before .loop-test .taken) (c .before .before .before .before .before .before .take .ensures .0) (c .before .before .before .before .before .before .take .ensures .1 .0) (c .before .before .before .before .before .before .take .ensures .1 .1)
-    (c .before .before .before .before .before .before .take .kept .1 .1 .0) (c .before .before .before .before .before .before .take .kept .1 .1 .1 .1 .0) (c .before .before .before .before .before .before .take .kept .1 .1 .1 .1 .1 .0)
+    feeding-turn (c .before .before .before .before .before .before .before .before .before .before .before .before .before .loop .inv)
+    (c .before .before .before .before .before .before .before .before .before .before .before .before .loop-test .taken)
+    (c .before .before .before .before .before .before .take .ensures .0)
+    (c .before .before .before .before .before .before .take .ensures .1 .0)
+    (c .before .before .before .before .before .before .take .ensures .1 .1)
+    (c .before .before .before .before .before .before .take .kept .1 .1 .0)
+    (c .before .before .before .before .before .before .take .kept .1 .1 .1 .1 .0)
+    (c .before .before .before .before .before .before .take .kept .1 .1 .1 .1 .1 .0)
 
 -- src/feed.rt:104:1
 same-length : tie.Need-same-length Inv-loop μ-loop
@@ -61,7 +68,13 @@ same-length-3 c = search needs
 
 -- src/feed.rt:104:1
 returns : tie.Need-returns Inv-loop μ-loop
-returns c = (feeding-line (c .before .loop .inv) (c .loop-test .left), (feeding-place (c .before .loop .inv) (c .loop-test .left), feeding-from _ (c .before .loop .inv) (c .loop-test .left) (c .before .before .emptied .ensures)))
+returns c = (
+  feeding-line (c .before .loop .inv) (c .loop-test .left),
+  (
+    feeding-place (c .before .loop .inv) (c .loop-test .left),
+    feeding-from _ (c .before .loop .inv) (c .loop-test .left) (c .before .before .emptied .ensures),
+  ),
+)
 
 pub feed-spec : {M : Type 1} → statement M
 feed-spec =

@@ -29,8 +29,14 @@ same-length-3 c = search needs
 
 -- src/feed.rt:79:1
 returns : tie.Need-returns
-returns c =
-    (c .before .before .before .before .before .before .before .before .before .before .before .take-byte .ensures .0, (take-place _ (c .before .before .before .before .before .before .before .before .before .before .before .take-byte .ensures .1), take-desk _ _ (c .before .before .before .before .before .before .before .before .before .before .before .take-byte .ensures .1) (c .before .before .before .before .hand-out .ensures)))
+returns c = (
+  c .before .before .before .before .before .before .before .before .before .before .before .take-byte .ensures .0,
+  (
+    take-place _ (c .before .before .before .before .before .before .before .before .before .before .before .take-byte .ensures .1),
+    take-desk _ _ (c .before .before .before .before .before .before .before .before .before .before .before .take-byte .ensures .1)
+        (c .before .before .before .before .hand-out .ensures),
+  ),
+)
 
 pub take-spec : {M : Type 1} → statement M
 take-spec =
