@@ -1,6 +1,6 @@
 -- ONE CUTTING: `records` cuts a stream as document 02 says (`records-cut`), and no second list of records does (`one-cutting`). Assumes
 -- nothing.
-use mathlib.Core.Bool.{Bool, true, false, not, _&&_}
+use mathlib.Core.Bool.{Bool, true, false, _&&_}
 use mathlib.Core.List.{List, [], _∷_, _++_, append-nil, cons-ne-nil, head-eq-of-cons-eq}
 use mathlib.Core.Logic.{_⊎_, inl, inr}
 use mathlib.Core.Path.{_≡_, refl, sym, ap, _∙_}

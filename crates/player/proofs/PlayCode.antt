@@ -11,11 +11,11 @@ use borrow.Author.Tests.{leb-true, eq-eqb, ne-eqb, lt-ltb, le-ltb, not-true, not
 use Rattle.words.specs.Logic.{false-true}
 use Rattle.words.specs.Edition.{wide}
 use Rattle.rules.specs.Calls as rules
-use Rattle.rules.specs.Calls.{Call, Answer, granted, done, bytes, refused}
+use Rattle.rules.specs.Calls.{Call, Answer, done}
 use Rattle.holds.specs.Holds.{Control}
-use Rattle.calls.specs.CallBytes.{Told, told, refusal, callB}
+use Rattle.calls.specs.CallBytes.{told, refusal, callB}
 use Rattle.calls.specs.Record.{image}
-use Rattle.calls.specs.ByValue.{Ends, ends, setUpA}
+use Rattle.calls.specs.ByValue.{ends, setUpA}
 use Rattle.chunk.specs.declared.access.BlockOff.{BlockOff}
 use Rattle.arena.specs.Answers.{answerOf}
 use Rattle.arena.specs.declared.answers.Reason.{Reason}

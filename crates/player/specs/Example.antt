@@ -1,5 +1,5 @@
 -- DOCUMENT 02'S EXAMPLE: the output of the definition, computed. Assumes nothing.
-use mathlib.Core.List.{List, [], _∷_, _++_}
+use mathlib.Core.List.{List, _∷_, _++_}
 use mathlib.Core.Path.{_≡_, refl}
 use Prim.Native.Nat.{ℕ}
 use Rattle.index.specs.Sizes.{roundUp, need, needWords}

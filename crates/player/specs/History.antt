@@ -1,7 +1,7 @@
 -- THE ANSWERS ARE THOSE OF A HISTORY: from a granted set-up on, up to the next granted one, the calls' lines say what the calls of `arena`
 -- answer one after the other on an arena of that many words, whatever it held before (`as-a-history`); none says 2 (`never-unsound`). By
 -- `from-set-up`. Assumes nothing.
-use mathlib.Core.Bool.{Bool, true, false}
+use mathlib.Core.Bool.{false}
 use mathlib.Core.List.{List, [], _∷_, map}
 use mathlib.Core.Option.{Option, none, some}
 use mathlib.Core.Path.{_≡_, refl, sym, ap, _∙_}
@@ -9,7 +9,7 @@ use Prim.Native.Nat.{ℕ, _*_, _/_, _%_, _≤_}
 use native.Mathlib.Omega.{arith}
 use lib.Dec.{ltb}
 use lib.ListN.{length, length-set}
-use Rattle.words.specs.Logic.{pick, pick-case}
+use Rattle.words.specs.Logic.{pick-case}
 use Rattle.words.specs.Edition.{wide, W}
 use Rattle.index.specs.Sizes.{needWords}
 use Rattle.rules.specs.Heap.{Heap, freshHeap}

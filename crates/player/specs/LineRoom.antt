@@ -1,14 +1,14 @@
 -- A LINE TAKES AT MOST 64 BYTES: its three numbers fit a word, whatever was played; so with room for 64 it stands whole behind the others.
 -- Assumes nothing.
-use mathlib.Core.List.{List, [], _∷_, _++_}
-use mathlib.Core.Path.{_≡_, refl, sym, ap, _∙_}
-use Prim.Native.Nat.{ℕ, _+_, _*_, _%_, _^_, _≤_, _<_}
+use mathlib.Core.List.{List, _∷_, _++_}
+use mathlib.Core.Path.{_≡_, refl, ap, _∙_}
+use Prim.Native.Nat.{ℕ, _+_, _*_, _^_, _≤_, _<_}
 use native.Mathlib.Omega.{arith}
 use lib.Dec.{eqb, ltb}
 use lib.ListN.{length, take, drop, length-append}
 use lib.Seq.{sets, length-sets, sets-eq, take-at, length-take-le}
 use borrow.Author.Tests.{le-leb}
-use Rattle.words.specs.Logic.{pick, pick-case}
+use Rattle.words.specs.Logic.{pick-case}
 use Rattle.words.specs.Edition.{wide, W, noLink}
 use Rattle.index.specs.Sizes.{need}
 use Rattle.rules.specs.Calls as rules

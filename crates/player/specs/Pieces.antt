@@ -1,17 +1,16 @@
 -- THE OUTPUT IS `replayed` OF THE LOG, WHATEVER THE PIECES (`whole`). What a program writes that begins, feeds the pieces one after the
 -- other, writes after each what stands in the buffer, and at last the end's line, is said with the contracts' own definitions (`output`).
 -- Assumes nothing.
-use mathlib.Core.Bool.{false}
 use mathlib.Core.List.{List, [], _∷_, _++_, flatten, append-nil, append-assoc}
-use mathlib.Core.Path.{_≡_, refl, sym, ap, _∙_, subst}
-use Prim.Native.Nat.{ℕ, suc, _+_, _*_, _%_, _^_, _≤_, _<_}
+use mathlib.Core.Path.{_≡_, refl, sym, ap, _∙_}
+use Prim.Native.Nat.{ℕ, suc, _+_, _*_, _^_, _≤_, _<_}
 use native.Mathlib.Nat.{add-zero}
 use native.Mathlib.Omega.{arith}
 use lib.ListN.{length, take, drop, length-append}
 use lib.Seq.{sets, length-sets, sets-eq, take-at}
 use borrow.Author.Tests.{le-leb}
 use Rattle.log.specs.Answers.{header, answerLine, headerPut, headerEnd}
-use Rattle.log.specs.Cutting.{entries, lineAfter, stepAt, ending, handOut, handed, outOf, lineOf, placeOf}
+use Rattle.log.specs.Cutting.{lineAfter, stepAt, ending, handOut, handed, outOf, lineOf, placeOf}
 use Rattle.log.specs.CuttingLaws.{cut-whole, in-pieces}
 use Rattle.log.specs.declared.entry.Entry.{Entry}
 use Rattle.log.specs.declared.cut.Place.{Place}
@@ -21,7 +20,7 @@ use Rattle.player.specs.Replayed as r
 use Rattle.player.specs.Replayed.{Work, idle, linesFrom, replayed}
 use Rattle.player.specs.PlayBytes.{Scene, playB}
 use Rattle.player.specs.PlayObeys.{Stands, Plays, plays}
-use Rattle.player.specs.LineRoom.{Words, play-words, line-short, put-long, put-far, put-text}
+use Rattle.player.specs.LineRoom.{play-words, line-short, put-long, put-far, put-text}
 use Rattle.player.specs.FeedBytes.{run, fresh, emptied, Desk, desk, next, tellB, handedOut, playAll}
 
 -- ---- what is written

@@ -1,16 +1,16 @@
 -- ONE RECORD DOES WHAT THE DEFINITION SAYS: where the words stand for the work, a record's line is the definition's, and the words then
 -- stand for its work. By `call-obeys`, the check that is exact, and what a set-up holds. Assumes nothing.
 use mathlib.Core.Bool.{Bool, true, false, _&&_}
-use mathlib.Core.List.{List, [], _∷_, _++_}
+use mathlib.Core.List.{List, [], _++_}
 use mathlib.Core.Logic.{⊎-elim}
 use mathlib.Core.Path.{_≡_, refl, sym, ap, _∙_, subst}
-use Prim.Native.Nat.{ℕ, _+_, _*_, _%_, _^_, _≤_, _<_}
+use Prim.Native.Nat.{ℕ, _%_, _≤_, _<_}
 use native.Mathlib.Omega.{arith}
 use lib.Dec.{leb, eqb}
 use lib.ListN.{length, take, drop, take-append-drop, length-set}
 use lib.Seq.{length-take-le, length-front, take-at}
-use borrow.Author.Tests.{le-leb, lt-leb, leb-true, eqb-true, eq-eqb, ne-eqb, lt-ltb, le-ltb}
-use Rattle.words.specs.Logic.{pick, pick-case, false-true, le-or-lt}
+use borrow.Author.Tests.{le-leb, leb-true, eqb-true, ne-eqb, lt-ltb, le-ltb}
+use Rattle.words.specs.Logic.{false-true, le-or-lt}
 use Rattle.words.specs.Edition.{wide, noLink}
 use Rattle.tiling.specs.Steps.{freshWords}
 use Rattle.rules.specs.Heap.{Heap, freshHeap}

@@ -3,11 +3,6 @@ use lib.ListN.{length}
 use borrow.Author.Needs.{needs}
 use Rattle.replay.proofs.read_all.Statement.{statement}
 use Rattle.replay.proofs.read_all.Tie as tie
-use Rattle.replay.proofs.read_all.Reads as reads
-use Rattle.replay.proofs.read_all.Lts as lts
-use Rattle.io.proofs.read_full.Reads as read-full-reads
-use Rattle.player.proofs.feed.feed.Reads as feed-reads
-use Rattle.replay.proofs.write_lines.Reads as write-lines-reads
 
 abbrev Inv-loop : tie.InvT-loop
 Inv-loop line₀ r₀ w₀ out₀ fed₀ piece₀ turns₀ line r w out fed piece turns =

@@ -1,6 +1,5 @@
 use lib.ListN.{length}
 use Prim.Native.Nat.{_-_}
-use native.Mathlib.Omega.{arith}
 use Rattle.log.proofs.LinesCode.{laws, Storing}
 use borrow.Author.Needs.{needs}
 use Rattle.log.proofs.lines.put_text.Statement.{statement}

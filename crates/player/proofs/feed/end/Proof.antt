@@ -2,11 +2,6 @@ use Rattle.player.proofs.FeedCode.{laws}
 use borrow.Author.Needs.{needs}
 use Rattle.player.proofs.feed.end.Statement.{statement}
 use Rattle.player.proofs.feed.end.Tie as tie
-use Rattle.player.proofs.feed.end.Reads as reads
-use Rattle.player.proofs.feed.end.Lts as lts
-use Rattle.log.proofs.cut.finish.Reads as finish-reads
-use Rattle.player.proofs.feed.emptied.Reads as emptied-reads
-use Rattle.player.proofs.feed.hand_out.Reads as hand-out-reads
 
 -- src/feed.rt:143:9
 finish-requires : tie.Need-finish-requires

@@ -1,15 +1,10 @@
 use Prim.Native.Nat.{_-_}
-use native.Mathlib.Omega.{arith}
 use lib.ListN.{length}
 use borrow.Author.Needs.{needs}
 use Rattle.player.specs.FeedBytes.{desk}
 use Rattle.player.proofs.FeedCode.{Feeding, feeding-start, feeding-turn, feeding-line, feeding-place, feeding-from}
 use Rattle.player.proofs.feed.feed.Statement.{statement}
 use Rattle.player.proofs.feed.feed.Tie as tie
-use Rattle.player.proofs.feed.feed.Reads as reads
-use Rattle.player.proofs.feed.feed.Lts as lts
-use Rattle.player.proofs.feed.emptied.Reads as emptied-reads
-use Rattle.player.proofs.feed.take.Reads as take-reads
 
 abbrev Inv-loop : tie.InvT-loop
 Inv-loop piece line₀ r₀ w₀ out₀ fed₀ i₀ line r w out fed i =

@@ -2,9 +2,6 @@ use Rattle.player.proofs.FeedCode.{laws}
 use borrow.Author.Needs.{needs}
 use Rattle.player.proofs.feed.hand_out.Statement.{statement}
 use Rattle.player.proofs.feed.hand_out.Tie as tie
-use Rattle.player.proofs.feed.hand_out.Reads as reads
-use Rattle.player.proofs.feed.hand_out.Lts as lts
-use Rattle.player.proofs.feed.tell.Reads as tell-reads
 
 -- src/feed.rt:73:25
 enum-told : tie.Need-enum-told

@@ -2,9 +2,6 @@ use Rattle.player.proofs.FeedCode.{laws}
 use borrow.Author.Needs.{needs}
 use Rattle.player.proofs.feed.start.Statement.{statement}
 use Rattle.player.proofs.feed.start.Tie as tie
-use Rattle.player.proofs.feed.start.Reads as reads
-use Rattle.player.proofs.feed.start.Lts as lts
-use Rattle.log.proofs.lines.put_header.Reads as put-header-reads
 
 -- src/feed.rt:33:9
 put-header-requires : tie.Need-put-header-requires

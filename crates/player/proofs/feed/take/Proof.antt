@@ -2,10 +2,6 @@ use Rattle.player.proofs.FeedCode.{take-place, take-desk}
 use borrow.Author.Needs.{needs}
 use Rattle.player.proofs.feed.take.Statement.{statement}
 use Rattle.player.proofs.feed.take.Tie as tie
-use Rattle.player.proofs.feed.take.Reads as reads
-use Rattle.player.proofs.feed.take.Lts as lts
-use Rattle.log.proofs.cut.take_byte.Reads as take-byte-reads
-use Rattle.player.proofs.feed.hand_out.Reads as hand-out-reads
 
 -- src/feed.rt:93:9
 take-byte-requires : tie.Need-take-byte-requires

@@ -2,11 +2,6 @@ use Rattle.player.proofs.FeedCode.{laws}
 use borrow.Author.Needs.{needs}
 use Rattle.player.proofs.feed.tell.Statement.{statement}
 use Rattle.player.proofs.feed.tell.Tie as tie
-use Rattle.player.proofs.feed.tell.Reads as reads
-use Rattle.player.proofs.feed.tell.Lts as lts
-use Rattle.log.proofs.lines.put_line.Reads as put-line-reads
-use Rattle.player.proofs.play.play.Reads as play-reads
-use Rattle.std.proofs.num.wrapping_add_u64.Reads as wrapping-add-u64-reads
 
 -- src/feed.rt:59:9
 play-requires : tie.Need-play-requires

@@ -2,10 +2,6 @@ use Rattle.player.proofs.PlayCode.{laws}
 use borrow.Author.Needs.{needs}
 use Rattle.player.proofs.play.answered.Statement.{statement}
 use Rattle.player.proofs.play.answered.Tie as tie
-use Rattle.player.proofs.play.answered.Reads as reads
-use Rattle.player.proofs.play.answered.Lts as lts
-use Rattle.player.proofs.shown.offset_of.Reads as offset-of-reads
-use Rattle.player.proofs.shown.refusal_of.Reads as refusal-of-reads
 
 -- src/play.rt:36:18
 refusal-of-requires : tie.Need-refusal-of-requires

@@ -2,12 +2,6 @@ use Rattle.player.proofs.PlayCode.{laws}
 use borrow.Author.Needs.{needs}
 use Rattle.player.proofs.play.free.Statement.{statement}
 use Rattle.player.proofs.play.free.Tie as tie
-use Rattle.player.proofs.play.free.Reads as reads
-use Rattle.player.proofs.play.free.Lts as lts
-use Rattle.arena.proofs.on_image.free.Reads as free-reads
-use Rattle.player.proofs.play.answered.Reads as answered-reads
-use Rattle.player.proofs.play.ready.Reads as ready-reads
-use Rattle.player.proofs.play.refused.Reads as refused-reads
 
 -- src/play.rt:64:9
 ready-requires : tie.Need-ready-requires

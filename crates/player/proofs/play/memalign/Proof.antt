@@ -2,12 +2,6 @@ use Rattle.player.proofs.PlayCode.{laws}
 use borrow.Author.Needs.{needs}
 use Rattle.player.proofs.play.memalign.Statement.{statement}
 use Rattle.player.proofs.play.memalign.Tie as tie
-use Rattle.player.proofs.play.memalign.Reads as reads
-use Rattle.player.proofs.play.memalign.Lts as lts
-use Rattle.arena.proofs.on_image.memalign.Reads as memalign-reads
-use Rattle.player.proofs.play.answered.Reads as answered-reads
-use Rattle.player.proofs.play.ready.Reads as ready-reads
-use Rattle.player.proofs.play.refused.Reads as refused-reads
 
 -- src/play.rt:90:9
 ready-requires : tie.Need-ready-requires

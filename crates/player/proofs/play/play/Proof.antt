@@ -2,14 +2,6 @@ use Rattle.player.proofs.PlayCode.{laws}
 use borrow.Author.Needs.{needs}
 use Rattle.player.proofs.play.play.Statement.{statement}
 use Rattle.player.proofs.play.play.Tie as tie
-use Rattle.player.proofs.play.play.Reads as reads
-use Rattle.player.proofs.play.play.Lts as lts
-use Rattle.player.proofs.play.free.Reads as free-reads
-use Rattle.player.proofs.play.malloc.Reads as malloc-reads
-use Rattle.player.proofs.play.memalign.Reads as memalign-reads
-use Rattle.player.proofs.play.realloc.Reads as realloc-reads
-use Rattle.player.proofs.play.refused.Reads as refused-reads
-use Rattle.player.proofs.play.set_up.Reads as set-up-reads
 
 -- src/play.rt:123:23
 enum-told : tie.Need-enum-told

@@ -2,8 +2,6 @@ use borrow.Author.Needs.{needs}
 use Rattle.player.proofs.PlayCode.{laws}
 use Rattle.player.proofs.play.ready.Statement.{statement}
 use Rattle.player.proofs.play.ready.Tie as tie
-use Rattle.player.proofs.play.ready.Reads as reads
-use Rattle.player.proofs.play.ready.Lts as lts
 
 -- src/play.rt:46:9
 returns : tie.Need-returns

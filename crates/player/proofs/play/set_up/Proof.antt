@@ -2,12 +2,6 @@ use Rattle.player.proofs.PlayCode.{laws}
 use borrow.Author.Needs.{needs}
 use Rattle.player.proofs.play.set_up.Statement.{statement}
 use Rattle.player.proofs.play.set_up.Tie as tie
-use Rattle.player.proofs.play.set_up.Reads as reads
-use Rattle.player.proofs.play.set_up.Lts as lts
-use Rattle.arena.proofs.control.image_of.Reads as image-of-reads
-use Rattle.arena.proofs.setup.Reads as setup-reads
-use Rattle.player.proofs.play.answered.Reads as answered-reads
-use Rattle.player.proofs.play.refused.Reads as refused-reads
 
 -- src/play.rt:102:9
 refused-requires : tie.Need-refused-requires
