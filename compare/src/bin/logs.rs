@@ -15,11 +15,10 @@ mod run {
     use compare::rng::Rng;
     use std::io::Write;
     use std::process::{Command, Stdio};
-    use std::{env, fs, path, thread, time};
+    use std::{env, fs, path, thread};
 
-    /// What the program writes, and how long it took.
-    fn replay(program: &str, log: &[u8]) -> (Vec<u8>, f64) {
-        let started = time::Instant::now();
+    /// What the program writes.
+    fn replay(program: &str, log: &[u8]) -> Vec<u8> {
         let mut child = Command::new(program)
             .stdin(Stdio::piped())
             .stdout(Stdio::piped())
@@ -30,12 +29,12 @@ mod run {
         let feeder = thread::spawn(move || input.write_all(&bytes).unwrap());
         let output = child.wait_with_output().unwrap().stdout;
         feeder.join().unwrap();
-        (output, started.elapsed().as_secs_f64())
+        output
     }
 
     fn same(program: &str, log: &[u8]) -> u64 {
         let (wanted, asked) = answers(log);
-        let (output, _) = replay(program, log);
+        let output = replay(program, log);
         if output != wanted {
             fs::write("differs.log", log).unwrap();
             println!("DIFFERENCE: differs.log");
@@ -65,7 +64,7 @@ mod run {
         let mut arguments = env::args().skip(1).map(|a| a.parse::<u64>().unwrap());
         let logs = arguments.next().unwrap_or(2000);
         let mut rng = Rng::new(arguments.next().unwrap_or(1));
-        let (output, _) = replay(
+        let output = replay(
             &program,
             b"setup,128\r\nmalloc,24\r\nfree,16\r\nfree,16\r\n",
         );
@@ -94,16 +93,15 @@ mod run {
             same(&program, &log)
         );
         let mut times: Vec<f64> = Vec::new();
-        let before = spent();
         for _ in 0..21 {
-            times.push(replay(&program, &log).1);
+            let before = spent();
+            replay(&program, &log);
+            times.push(spent() - before);
         }
         times.sort_by(f64::total_cmp);
         println!(
-            "seconds by the clock: best {:.3}, middle of 21 {:.3}; of the processor, mean {:.3}",
-            times[0],
-            times[10],
-            (spent() - before) / 21.0
+            "processor seconds: best {:.2}, middle of 21 {:.2}",
+            times[0], times[10]
         );
     }
 }
