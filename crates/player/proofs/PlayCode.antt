@@ -1,6 +1,6 @@
 -- One record on the words: one law for each return, what the tests and the callees have told put together as the definition says it.
 -- Assumes nothing.
-use mathlib.Core.Bool.{Bool, true, false, not, _&&_}
+use mathlib.Core.Bool.{Bool, true, false, not}
 use mathlib.Core.List.{List, _++_}
 use mathlib.Core.Path.{_≡_, refl, sym, ap, _∙_}
 use Prim.Native.Nat.{ℕ, _-_, _≤_, _<_}
@@ -8,11 +8,11 @@ use native.Mathlib.Omega.{arith}
 use lib.Dec.{eqb, leb}
 use lib.ListN.{length, take, drop}
 use borrow.Author.Tests.{leb-true, eq-eqb, ne-eqb, lt-ltb, le-ltb, not-true, not-false}
-use Rattle.words.specs.Logic.{false-true}
 use Rattle.words.specs.Edition.{wide}
 use Rattle.rules.specs.Calls as rules
 use Rattle.rules.specs.Calls.{Call, Answer, done}
 use Rattle.holds.specs.Holds.{Control}
+use Rattle.decides.specs.MarksLaws.{and-right}
 use Rattle.calls.specs.CallBytes.{told, refusal, callB}
 use Rattle.calls.specs.Record.{image}
 use Rattle.calls.specs.ByValue.{ends, setUpA}
@@ -41,13 +41,9 @@ module _ (words room : ℕ) where
   unfolding isReady
   ready-is n q = q ∙ sym (rw (ne-eqb words 0 n) refl)
 
-  both : (a b : Bool) → a && b ≡ true → b ≡ true
-  both true b q = q
-  both false b q = false-true q
-
   pub ready-room : {x : Bool} → x ≡ isReady words room → x ≡ true → words ≤ room
   unfolding isReady
-  ready-room e t = leb-true words room (both (not (eqb words 0)) (leb words room) (sym e ∙ t))
+  ready-room e t = leb-true words room (and-right (not (eqb words 0)) (leb words room) (sym e ∙ t))
 
 less-none : (n : ℕ) → n - 0 ≡ n
 less-none n = omega arith

@@ -1,16 +1,15 @@
 -- ONE RECORD DOES WHAT THE DEFINITION SAYS: where the words stand for the work, a record's line is the definition's, and the words then
 -- stand for its work. By `call-obeys`, the check that is exact, and what a set-up holds. Assumes nothing.
-use mathlib.Core.Bool.{Bool, true, false, _&&_}
+use mathlib.Core.Bool.{Bool, true, false}
 use mathlib.Core.List.{List, [], _++_}
 use mathlib.Core.Logic.{⊎-elim}
 use mathlib.Core.Path.{_≡_, refl, sym, ap, _∙_, subst}
 use Prim.Native.Nat.{ℕ, _%_, _≤_, _<_}
 use native.Mathlib.Omega.{arith}
-use lib.Dec.{leb, eqb}
 use lib.ListN.{length, take, drop, take-append-drop, length-set}
 use lib.Seq.{length-take-le, length-front, take-at}
-use borrow.Author.Tests.{le-leb, leb-true, eqb-true, ne-eqb, lt-ltb, le-ltb}
-use Rattle.words.specs.Logic.{false-true, le-or-lt}
+use borrow.Author.Tests.{le-leb, ne-eqb, lt-ltb, le-ltb}
+use Rattle.words.specs.Logic.{le-or-lt}
 use Rattle.words.specs.Edition.{wide, noLink}
 use Rattle.tiling.specs.Steps.{freshWords}
 use Rattle.rules.specs.Heap.{Heap, freshHeap}
@@ -20,6 +19,7 @@ use Rattle.holds.specs.Holds.{Control, freshControl}
 use Rattle.holds.specs.Unique.{fresh-holds}
 use Rattle.chunk.specs.Held.{Held}
 use Rattle.calls.specs.CallBytes.{Told, refusal, coreCall}
+use Rattle.calls.specs.Counts.{count-allowed, count-range}
 use Rattle.calls.specs.CallObeys.{Follows, call-obeys}
 use Rattle.calls.specs.Histories.{let-through}
 use Rattle.calls.specs.Record.{image, emptyControl}
@@ -94,14 +94,8 @@ calls-play (busy n h) words r v d c = subst (λ (k : ℕ). Plays (called (busy n
 -- ---- set-up
 
 -- what an allowed count is
-allowed : (n : ℕ) → allowedCount n ≡ true → (n % 2 ≡ 0) × (16 ≤ n) × (n ≤ 8192)
-allowed n q = go (eqb (n % 2) 0) (leb 16 n) (leb n 8192) refl refl refl q
-  where
-    go : (a b c : Bool) → eqb (n % 2) 0 ≡ a → leb 16 n ≡ b → leb n 8192 ≡ c → a && (b && c) ≡ true → (n % 2 ≡ 0) × (16 ≤ n) × (n ≤ 8192)
-    go true true true x y z q = (eqb-true (n % 2) 0 x, leb-true 16 n y, leb-true n 8192 z)
-    go true true false x y z q = false-true q
-    go true false c x y z q = false-true q
-    go false b c x y z q = false-true q
+allowed : (n : ℕ) → allowedCount n ≡ true → (16 ≤ n) × (n ≤ 8192) × (n % 2 ≡ 0)
+allowed n q = count-range n (count-allowed n ∙ q)
 
 module _ (s : Work) (words : ℕ) (r v : List ℕ) (n : ℕ) where
   -- the count is not allowed: a refused set-up leaves the work
@@ -161,8 +155,8 @@ module _ (s : Work) (words : ℕ) (r v : List ℕ) (n : ℕ) where
         let a = allowed n q in
         subst (λ (k : ℕ). Held wide (image control) fresh (freshHeap k) []) (length-take-le n v l)
         (held-image wide control fresh (freshHeap (length (take n v))) []
-        (fresh-holds wide (take n v) (omega (arith, length-take-le n v l, a .0)) (omega (arith, length-take-le n v l, a .1))
-        (omega (arith, length-take-le n v l, a .2))))
+        (fresh-holds wide (take n v) (omega (arith, length-take-le n v l, a .2)) (omega (arith, length-take-le n v l, a .0))
+        (omega (arith, length-take-le n v l, a .1))))
 
     begins : Plays (line 0 0 (busy n (freshHeap n))) v (scene (said n 0 0) (image control) (fresh ++ drop n v))
     begins =
@@ -188,7 +182,7 @@ module _ (s : Work) (words : ℕ) (r v : List ℕ) (n : ℕ) where
   set-up-plays d l = go (allowedCount n) refl
     where
       go : (b : Bool) → allowedCount n ≡ b → Plays (setUp s n) v (setUpOf words r v n)
-      go true q = yes (let a = allowed n q in omega (arith, a .2, l)) q
+      go true q = yes (let a = allowed n q in omega (arith, a .1, l)) q
       go false q = no d q
 
 -- ---- a record
