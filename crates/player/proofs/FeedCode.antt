@@ -83,7 +83,8 @@ feeding-start piece line p d =
           refl;
     }
 
-pub feeding-turn : {piece line₀ : List ℕ} {p₀ : Place} {d₀ : Desk} {line : List ℕ} {p : Place} {d : Desk} {i : ℕ} {line′ : List ℕ} {p′ : Place} {d′ : Desk}
+pub feeding-turn : {piece line₀ : List ℕ} {p₀ : Place} {d₀ : Desk} {line : List ℕ} {p : Place} {d : Desk} {i : ℕ}
+    {line′ : List ℕ} {p′ : Place} {d′ : Desk}
     → Feeding piece line₀ p₀ d₀ line p d i → i < length piece
     → line′ ≡ lineAfter line p (getD piece i 0) → p′ ≡ stepAt line p (getD piece i 0) .place
     → d′ ≡ handedOut d (stepAt line p (getD piece i 0) .got)
