@@ -18,6 +18,8 @@ pub mod library;
 #[cfg(crate_there)]
 pub mod lockstep;
 #[cfg(crate_there)]
+pub mod logs;
+#[cfg(crate_there)]
 pub mod look;
 #[cfg(crate_there)]
 pub mod made_up;

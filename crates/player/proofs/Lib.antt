@@ -1,0 +1,3 @@
+-- What the code leaves at each return, as laws.
+pub mod PlayCode
+pub mod FeedCode
