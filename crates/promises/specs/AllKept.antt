@@ -3,12 +3,14 @@ use Rattle.words.specs.Edition.{wide}
 use Rattle.rules.specs.Heap.{freshHeap}
 use Rattle.calls.specs.Histories.{setUpOn}
 use Rattle.promises.specs.Promises.{Promises, Histories, then}
+use Rattle.promises.specs.Requests.{Requests}
 use Rattle.promises.specs.AnyInputKept.{any-input, fresh-start}
 use Rattle.promises.specs.TheRulesKept.{the-rules}
 use Rattle.promises.specs.HistoriesKept as history
 use Rattle.promises.specs.ResizeKept.{resize-keeps}
 use Rattle.promises.specs.SwayedKept.{swayed}
 use Rattle.promises.specs.SettledKept.{settled}
+use Rattle.promises.specs.BatchKept.{batch}
 
 histories : Histories
 histories =
@@ -26,3 +28,7 @@ histories =
 
 pub kept : Promises
 kept = record { any-input = any-input; the-rules = the-rules; histories = histories; swayed = swayed; settled = settled }
+
+-- and of document 02's requests
+pub requested : Requests
+requested = record { batch = batch }
