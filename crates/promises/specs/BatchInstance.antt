@@ -4,7 +4,7 @@ use mathlib.Core.Path.{_≡_, refl, sym, _∙_, ap, subst}
 use mathlib.Core.List.{List, [], _∷_}
 use mathlib.Core.Option.{Option, none, some}
 use mathlib.Core.Logic.{inl, inr}
-use Prim.Native.Nat.{ℕ, _+_, _*_, _<_}
+use Prim.Native.Nat.{ℕ, zero, suc, _+_, _*_, _<_}
 use native.Mathlib.Omega.{arith}
 use lib.ListN.{length, getD, replicate}
 use Rattle.words.specs.Edition.{wide}
@@ -38,7 +38,7 @@ room = replicate 18 77
 abbrev start : Box
 start = setUpOn wide zeros
 
-run : Ended
+unfoldable pub run : Ended
 run = batchA wide (start .control) (start .words) calls room
 
 fits : Fits (start .control)
@@ -114,5 +114,6 @@ odd-count = requested .batch .row-1 (start .control) (replicate 15 0) calls [] .
 pub ignored : batchA wide (start .control) (start .words) (0 ∷ 24 ∷ 1 ∷ []) room ≡ batchA wide (start .control) (start .words) (0 ∷ 24 ∷ 9 ∷ []) room
 ignored = requested .batch .ignored (start .control) (start .words) (0 ∷ 24 ∷ 1 ∷ []) (0 ∷ 24 ∷ 9 ∷ []) room refl same
   where
-    same : (i : ℕ) → listed (0 ∷ 24 ∷ 1 ∷ []) i ≡ listed (0 ∷ 24 ∷ 9 ∷ []) i
-    same i = refl
+    same : (i : ℕ) → 3 * i < 3 → listed (0 ∷ 24 ∷ 1 ∷ []) i ≡ listed (0 ∷ 24 ∷ 9 ∷ []) i
+    same zero l = refl
+    same (suc i) l = absurd (let z : ⊥ = omega arith in z)

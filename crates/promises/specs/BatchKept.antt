@@ -194,13 +194,14 @@ module _ {S : Type 0} (f : S → Call → Said S) where
       (two s (eqb k 1) (some (Free x)) n refl (two s (eqb k 2) (some (Realloc x y)) o refl (two s (eqb k 3) (some (Memalign x y)) none refl refl)))
 
   -- lists that say the same calls
-  same-runs : (s : S) (cs ds xs : List ℕ) (i n : ℕ) → ((i : ℕ) → listed cs i ≡ listed ds i) → runs f s cs xs i n ≡ runs f s ds xs i n
+  same-runs : (s : S) (cs ds xs : List ℕ) (i n : ℕ) → 3 * (i + n) ≤ length cs → ((i : ℕ) → 3 * i < length cs → listed cs i ≡ listed ds i)
+      → runs f s cs xs i n ≡ runs f s ds xs i n
   unfolding runs stepAt
-  same-runs s cs ds xs i zero g = refl
-  same-runs s cs ds xs i (suc n) g =
+  same-runs s cs ds xs i zero l g = refl
+  same-runs s cs ds xs i (suc n) l g =
       let a = callAt f s cs i in
-      let same : callAt f s cs i ≡ callAt f s ds i = call-is s cs i ∙ ap (lineBy f s) (g i) ∙ sym (call-is s ds i) in
-      same-runs (a .left) cs ds (writeAt xs i (a .refusal) (a .offset)) (i + 1) n g
+      let same : callAt f s cs i ≡ callAt f s ds i = call-is s cs i ∙ ap (lineBy f s) (g i (omega arith)) ∙ sym (call-is s ds i) in
+      same-runs (a .left) cs ds (writeAt xs i (a .refusal) (a .offset)) (i + 1) n (omega arith) g
       ∙ ap (λ (z : Said S). runs f (z .left) ds (writeAt xs i (z .refusal) (z .offset)) (i + 1) n) same
 
   -- the answers before stay
@@ -217,10 +218,11 @@ abbrev whole : Control → List ℕ → List ℕ → ℕ → Ended → Ended
 whole c w xs n b =
     pick (allowedCount (length w)) (pick (soundB wide (image c) w) (pick (listsFit n (length xs)) b (ended 8 c w xs)) (ended 2 c w xs)) (ended 1 c w xs)
 
-ignored : (c : Control) (w cs ds xs : List ℕ) → length cs ≡ length ds → ((i : ℕ) → listed cs i ≡ listed ds i) → batchA wide c w cs xs ≡ batchA wide c w ds xs
+ignored : (c : Control) (w cs ds xs : List ℕ) → length cs ≡ length ds → ((i : ℕ) → 3 * i < length cs → listed cs i ≡ listed ds i)
+    → batchA wide c w cs xs ≡ batchA wide c w ds xs
 unfolding batchA
 ignored c w cs ds xs l g =
-    ap (λ (x : Ran Store). whole c w xs (length cs) (endsAs x)) (same-runs (made wide) (store (image c) w) cs ds xs 0 (length cs / 3) g)
+    ap (λ (x : Ran Store). whole c w xs (length cs) (endsAs x)) (same-runs (made wide) (store (image c) w) cs ds xs 0 (length cs / 3) (omega arith) g)
     ∙ ap (λ (n : ℕ). whole c w xs n (endsAs (runs (made wide) (store (image c) w) ds xs 0 (n / 3)))) l
 
 -- ---- in step with the history of the calls

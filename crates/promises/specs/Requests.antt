@@ -91,7 +91,8 @@ pub record Batch : Type 0 where
   -- Words past the last answer stay.
   pub past-last : (c : Control) (w cs xs : List ℕ) (k : ℕ) → 2 * (length cs / 3) ≤ k → getD (batchA wide c w cs xs .answers) k 0 ≡ getD xs k 0
   -- A number that a kind doesn't use is ignored: lists of one length that say the same calls get the same.
-  pub ignored : (c : Control) (w cs ds xs : List ℕ) → length cs ≡ length ds → ((i : ℕ) → listed cs i ≡ listed ds i) → batchA wide c w cs xs ≡ batchA wide c w ds xs
+  pub ignored : (c : Control) (w cs ds xs : List ℕ) → length cs ≡ length ds → ((i : ℕ) → 3 * i < length cs → listed cs i ≡ listed ds i)
+      → batchA wide c w cs xs ≡ batchA wide c w ds xs
   -- In a history of demand 3 a batch is nothing but its calls: it is refused for its lists' lengths alone, and leaves what they leave.
   pub in-a-history : (w : List ℕ) (es : List Event) (cs xs : List ℕ) → allowedCount (length w) ≡ true → length cs % 3 ≡ 0 → 2 * (length cs / 3) ≤ length xs
       → let s = after wide (setUpOn wide w) es in let b = batchA wide (s .control) (s .words) cs xs in
