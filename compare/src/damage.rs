@@ -1,4 +1,5 @@
 //! Records and arenas in which something was changed: the library's check against the reading of document 01.
+use crate::batch;
 use crate::history::Rng;
 use crate::library::{Library, Ours, RECORD_WORDS};
 use crate::oracle::{NONE, ROOT};
@@ -79,8 +80,10 @@ pub fn judge(lib: &dyn Library, state: &Ours) -> Result<Found, String> {
             return Err(format!("{ask}: {answer}, but record or arena changed"));
         }
     }
+    after.clone_from(state);
+    let calls = 9 + batch::judge(lib, state, sound, &asks)?;
     odd_count(lib, &mut after)?;
-    Ok(Found { sound, calls: 9 })
+    Ok(Found { sound, calls })
 }
 
 /// Whatever the record is, with a word count that isn't allowed the answer is 1.

@@ -22,6 +22,8 @@ pub struct Figures {
     /// by number
     refusals: [u64; 7],
     writes: u64,
+    batches: u64,
+    batch_calls: u64,
     pairs: u64,
     sound_pairs: u64,
     pair_calls: u64,
@@ -34,8 +36,9 @@ impl Figures {
         self.sizes.insert(case.words);
     }
 
-    pub fn wrote(&mut self) {
-        self.writes += 1;
+    /// A step that is no call.
+    pub fn took(&mut self, step: Step) {
+        self.writes += u64::from(matches!(step, Step::Write(..) | Step::Fill(..)));
     }
 
     /// A call and its answer.
@@ -43,6 +46,10 @@ impl Figures {
         if answer.number != 0 {
             self.refusals[answer.number as usize] += 1;
             return;
+        }
+        if let Step::Batch(_) = step {
+            self.batches += 1;
+            self.batch_calls += answer.value;
         }
         let Step::Ask(ask) = step else {
             return;
@@ -94,6 +101,8 @@ impl fmt::Display for Figures {
             row(&format!("refusal {number}"), self.refusals[number])?;
         }
         row("owners' writes", self.writes)?;
+        row("batches", self.batches)?;
+        row("- calls in them", self.batch_calls)?;
         row("damaged and made-up pairs", self.pairs)?;
         row("- of these sound", self.sound_pairs)?;
         row("- calls on them", self.pair_calls)?;

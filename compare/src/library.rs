@@ -11,6 +11,14 @@ const UNWRITTEN: u64 = 0x756e_7772;
 pub trait Library {
     fn setup(&self, rec: &mut [u64], words: &mut [u64], out: &mut [u64]) -> u64;
     fn ask(&self, ask: Ask, rec: &mut [u64], words: &mut [u64], out: &mut [u64]) -> u64;
+    fn batch(
+        &self,
+        rec: &mut [u64],
+        words: &mut [u64],
+        out: &mut [u64],
+        calls: &[u64],
+        answers: &mut [u64],
+    ) -> u64;
     fn sound(&self, rec: &[u64], words: &[u64]) -> u64;
 }
 
@@ -32,6 +40,17 @@ impl Library for Linked {
             Ask::Memalign(a, n) => crate::raw::memalign(rec, words, out, a, n),
             Ask::Usable(off) => crate::raw::usable(rec, words, out, off),
         }
+    }
+
+    fn batch(
+        &self,
+        rec: &mut [u64],
+        words: &mut [u64],
+        out: &mut [u64],
+        calls: &[u64],
+        answers: &mut [u64],
+    ) -> u64 {
+        crate::raw::batch(rec, words, out, calls, answers)
     }
 
     fn sound(&self, rec: &[u64], words: &[u64]) -> u64 {

@@ -96,11 +96,17 @@ fn history(lib: &dyn Library, setting: Setting, figures: &mut Figures) -> Result
     };
     maker.knows(pair.blocks());
     figures.start(&case);
+    // how many calls of a batch are to come
+    let mut batched = 0;
     for _ in 0..setting.calls {
+        if batched == 0 && rng.chance(3) {
+            batched = 1 + rng.below(40);
+            take(&mut pair, &mut case, figures, Step::Mark)?;
+        }
         let call = maker.next(&pair.heap);
         let granted = take(&mut pair, &mut case, figures, Step::Ask(call.into()))?;
         maker.settle(call, granted.filter(|_| !matches!(call, Call::Free(_))));
-        if let Some(block) = granted {
+        if let Some(block) = granted.filter(|_| batched == 0) {
             for step in probes::owner(&mut rng, &pair, block) {
                 take(&mut pair, &mut case, figures, step)?;
             }
@@ -109,6 +115,10 @@ fn history(lib: &dyn Library, setting: Setting, figures: &mut Figures) -> Result
             let step = probes::probe(&mut rng, &pair);
             take(&mut pair, &mut case, figures, step)?;
         }
+        if batched == 1 {
+            take(&mut pair, &mut case, figures, Step::Batch(rng.draw()))?;
+        }
+        batched = batched.saturating_sub(1);
         if rng.chance(4) {
             damaged(lib, &pair, &mut case, &mut rng, figures)?;
         }
@@ -127,7 +137,7 @@ fn take(
     match pair.step(step) {
         Err(_) => Err(Box::new(case.clone())),
         Ok(None) => {
-            figures.wrote();
+            figures.took(step);
             Ok(None)
         }
         Ok(Some(answer)) => {
