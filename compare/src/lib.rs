@@ -48,6 +48,8 @@ pub mod speed;
 pub mod steps;
 #[cfg(crate_there)]
 pub mod table;
+#[cfg(all(crate_there, library_there))]
+pub mod traces;
 #[cfg(crate_there)]
 pub mod whole;
 
