@@ -56,8 +56,8 @@ says i k a l q u =
     let g = from-set-up wide zeros refl (omega arith) (omega arith) (schedule calls 0 i) in
     let s = after wide start (schedule calls 0 i) in
     let told : callA wide (s .control) (s .words) k .answer ≡ a =
-        calls-held wide s (heapAfter wide 128 (freshHeap 128) (schedule calls 0 i)) (g .held) k .answer
-        ∙ ap (λ (n : ℕ). answerTo wide n (heapAfter wide 128 (freshHeap 128) (schedule calls 0 i)) k .answer) (g .count) ∙ u in
+    calls-held wide s (heapAfter wide 128 (freshHeap 128) (schedule calls 0 i)) (g .held) k .answer
+    ∙ ap (λ (n : ℕ). answerTo wide n (heapAfter wide 128 (freshHeap 128) (schedule calls 0 i)) k .answer) (g .count) ∙ u in
     let z = requested .batch .answers (start .control) (start .words) calls room i fits runs l in
     (z .0 ∙ ap (refusalOf s) q ∙ ap refusal told, z .1 ∙ ap (offsetOf s) q ∙ ap placed told)
 

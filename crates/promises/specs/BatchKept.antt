@@ -247,13 +247,12 @@ leaves : (c : Control) (w cs xs : List ℕ) → Fits c → batchA wide c w cs xs
 leaves c w cs xs f q = ap (λ (b : Ended). box (b .control) (b .words)) (ran c w cs xs f q) ∙ left-is (box c w) cs xs 0 (length cs / 3)
 
 within : (c : Control) (w cs xs : List ℕ) → Fits c → (length (batchA wide c w cs xs .words) ≡ length w) × (length (batchA wide c w cs xs .answers) ≡ length xs)
-within c w cs xs f =
-    (
-      ⊎-elim (λ q. let h = row-0 c w cs xs f .0 q .0 in
+within c w cs xs f = (
+  ⊎-elim (λ q. let h = row-0 c w cs xs f .0 q .0 in
       ap (λ (s : Box). length (s .words)) (leaves c w cs xs f q) ∙ goes wide (box c w) (h .0) (h .1) (schedule cs 0 (length cs / 3)) .count)
       (λ n. ap length (unchanged c w cs xs n .1)) (same? (batchA wide c w cs xs .refusal) 0),
-      long c w cs xs,
-    )
+  long c w cs xs,
+)
 
 -- ---- the answers
 
@@ -279,14 +278,13 @@ answer-at : (s : Box) (cs xs : List ℕ) (i n j p : ℕ) → p ≡ i + j → j <
 unfolding runs stepAt
 answer-at s cs xs i zero j p e l m = absurd (let z : ⊥ = omega arith in z)
 answer-at s cs xs i (suc n) zero p e l m =
-    subst (λ (q : ℕ). Says (runs (alone wide) (a .left) cs (writeAt xs i (a .refusal) (a .offset)) (i + 1) n .answers) q s (listed cs q)) (let z : i ≡ p = omega arith in z)
-    (
+    subst (λ (q : ℕ). Says (runs (alone wide) (a .left) cs (writeAt xs i (a .refusal) (a .offset)) (i + 1) n .answers) q s (listed cs q)) (let z : i ≡ p = omega arith in z) (
       stays (alone wide) (a .left) cs (writeAt xs i (a .refusal) (a .offset)) (i + 1) n (2 * i) (omega arith)
-      ∙ getD-set-other (set xs (2 * i) (a .refusal)) (2 * i + 1) (2 * i) (a .offset) 0 (λ z. omega arith) ∙ getD-set-same xs (2 * i) (a .refusal) 0 (omega arith)
-      ∙ ap (λ (z : Said Box). z .refusal) (call-is (alone wide) s cs i) ∙ line-refusal s (listed cs i),
+          ∙ getD-set-other (set xs (2 * i) (a .refusal)) (2 * i + 1) (2 * i) (a .offset) 0 (λ z. omega arith) ∙ getD-set-same xs (2 * i) (a .refusal) 0 (omega arith)
+          ∙ ap (λ (z : Said Box). z .refusal) (call-is (alone wide) s cs i) ∙ line-refusal s (listed cs i),
       stays (alone wide) (a .left) cs (writeAt xs i (a .refusal) (a .offset)) (i + 1) n (2 * i + 1) (omega arith)
-      ∙ getD-set-same (set xs (2 * i) (a .refusal)) (2 * i + 1) (a .offset) 0 (simp length-set (omega arith))
-      ∙ ap (λ (z : Said Box). z .offset) (call-is (alone wide) s cs i) ∙ line-offset s (listed cs i),
+          ∙ getD-set-same (set xs (2 * i) (a .refusal)) (2 * i + 1) (a .offset) 0 (simp length-set (omega arith))
+          ∙ ap (λ (z : Said Box). z .offset) (call-is (alone wide) s cs i) ∙ line-offset s (listed cs i),
     )
   where
     a : Said Box
@@ -370,7 +368,7 @@ one-heap s t o k =
     let a = calls-held wide s (o .heap) (o .here) k in
     let b = calls-held wide t (o .heap) (o .there) k in
     let same : callA wide (s .control) (s .words) k .answer ≡ callA wide (t .control) (t .words) k .answer =
-        a .answer ∙ ap (λ (n : ℕ). answerTo wide n (o .heap) k .answer) (o .count) ∙ sym (b .answer) in
+    a .answer ∙ ap (λ (n : ℕ). answerTo wide n (o .heap) k .answer) (o .count) ∙ sym (b .answer) in
     record {
       refusal = ap refusal same;
       offset = ap code.offsetOf same;
@@ -392,11 +390,10 @@ sound-batch c w cs xs h n =
 
 same-answers : (c : Control) (w v cs xs : List ℕ) (h : Heap) → Holds wide c w h → length v ≡ length w → ((i : ℕ) → Governed h i → getD v i 0 ≡ getD w i 0)
     → (batchA wide c v cs xs .refusal ≡ batchA wide c w cs xs .refusal) × (batchA wide c v cs xs .answers ≡ batchA wide c w cs xs .answers)
-same-answers c w v cs xs h n l g =
-    (
-      ap (λ (b : Ended). b .refusal) p ∙ two (listsFit (length cs) (length xs)) .0 ∙ sym (ap (λ (b : Ended). b .refusal) q),
-      ap (λ (b : Ended). b .answers) p ∙ two (listsFit (length cs) (length xs)) .1 ∙ sym (ap (λ (b : Ended). b .answers) q),
-    )
+same-answers c w v cs xs h n l g = (
+  ap (λ (b : Ended). b .refusal) p ∙ two (listsFit (length cs) (length xs)) .0 ∙ sym (ap (λ (b : Ended). b .refusal) q),
+  ap (λ (b : Ended). b .answers) p ∙ two (listsFit (length cs) (length xs)) .1 ∙ sym (ap (λ (b : Ended). b .answers) q),
+)
   where
     m : Holds wide c v h
     m = governed-frame wide c w h [] n v l g
