@@ -182,7 +182,8 @@ pub extern "C" fn nuka_batch(
     calls: &[u64],
     answers: &mut [u64],
 ) -> u64
-    ensures { λ x. ⌜ ran x (now (rec .exit)) (now (w .exit)) (now (out .exit)) (now (answers .exit)) ≡ batchC (now (rec .entry)) (now (w .entry)) (now (out .entry)) (now (calls .entry)) (now (answers .entry)) ⌝ }
+    ensures { λ x. ⌜ ran x (now (rec .exit)) (now (w .exit)) (now (out .exit)) (now (answers .exit))
+        ≡ batchC (now (rec .entry)) (now (w .entry)) (now (out .entry)) (now (calls .entry)) (now (answers .entry)) ⌝ }
 {
     if !lent_ok(rec.len(), out.len()) {
         return 2;

@@ -1,5 +1,6 @@
--- ONE BATCH, so that nothing in `Batch` is empty: eight calls on 128 words, among them one of an unknown kind, numbers that no kind uses, a resize that
--- moves and two refusals. What it answers is computed by the rules, which the calls obey; the promises tell the rest. Assumes nothing.
+-- ONE BATCH, so that nothing in `Batch` is empty: eight calls on 128 words, among them one of an unknown kind, numbers that no kind uses, a
+-- resize that moves and two refusals. What it answers is computed by the rules, which the calls obey; the promises tell the rest. Assumes
+-- nothing.
 use mathlib.Core.Path.{_≡_, refl, sym, _∙_, ap, subst}
 use mathlib.Core.List.{List, [], _∷_}
 use mathlib.Core.Option.{Option, none, some}
@@ -49,7 +50,8 @@ unfolding run
 runs = requested .batch .in-a-history zeros [] calls room refl refl (omega arith) .0
 
 -- the i-th answer, where the i-th of the list is the call k and the rules say a
-says : (i : ℕ) (k : Call) (a : Answer) → 3 * i < 24 → listed calls i ≡ some k → answerTo wide 128 (heapAfter wide 128 (freshHeap 128) (schedule calls 0 i)) k .answer ≡ a
+says : (i : ℕ) (k : Call) (a : Answer) → 3 * i < 24 → listed calls i ≡ some k
+    → answerTo wide 128 (heapAfter wide 128 (freshHeap 128) (schedule calls 0 i)) k .answer ≡ a
     → (getD (run .answers) (2 * i) 0 ≡ refusal a) × (getD (run .answers) (2 * i + 1) 0 ≡ placed a)
 unfolding run
 says i k a l q u =
@@ -102,16 +104,21 @@ past = requested .batch .past-last (start .control) (start .words) calls room 17
 -- ---- the whole, refused
 
 pub odd-list : batchA wide (start .control) (start .words) (0 ∷ 24 ∷ []) room .refusal ≡ 8
-odd-list = requested .batch .row-8 (start .control) (start .words) (0 ∷ 24 ∷ []) room fits .1 ((freshHeap 128, fresh-start zeros refl), inl (λ z. omega (arith, z)))
+odd-list =
+    requested .batch .row-8 (start .control) (start .words) (0 ∷ 24 ∷ []) room fits .1
+    ((freshHeap 128, fresh-start zeros refl), inl (λ z. omega (arith, z)))
 
 pub short-list : batchA wide (start .control) (start .words) (0 ∷ 24 ∷ 0 ∷ []) (77 ∷ []) .refusal ≡ 8
-short-list = requested .batch .row-8 (start .control) (start .words) (0 ∷ 24 ∷ 0 ∷ []) (77 ∷ []) fits .1 ((freshHeap 128, fresh-start zeros refl), inr (omega arith))
+short-list =
+    requested .batch .row-8 (start .control) (start .words) (0 ∷ 24 ∷ 0 ∷ []) (77 ∷ []) fits .1
+    ((freshHeap 128, fresh-start zeros refl), inr (omega arith))
 
 pub odd-count : batchA wide (start .control) (replicate 15 0) calls [] .refusal ≡ 1
 odd-count = requested .batch .row-1 (start .control) (replicate 15 0) calls [] .1 refl
 
 -- the same calls, other numbers where no kind looks
-pub ignored : batchA wide (start .control) (start .words) (0 ∷ 24 ∷ 1 ∷ []) room ≡ batchA wide (start .control) (start .words) (0 ∷ 24 ∷ 9 ∷ []) room
+pub ignored : batchA wide (start .control) (start .words) (0 ∷ 24 ∷ 1 ∷ []) room
+    ≡ batchA wide (start .control) (start .words) (0 ∷ 24 ∷ 9 ∷ []) room
 ignored = requested .batch .ignored (start .control) (start .words) (0 ∷ 24 ∷ 1 ∷ []) (0 ∷ 24 ∷ 9 ∷ []) room refl same
   where
     same : (i : ℕ) → 3 * i < 3 → listed (0 ∷ 24 ∷ 1 ∷ []) i ≡ listed (0 ∷ 24 ∷ 9 ∷ []) i

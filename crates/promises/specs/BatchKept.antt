@@ -1,5 +1,5 @@
--- REQUEST (xi) IS KEPT. The rows by the three tests in their order; what is left and answered by `one-by-one` (`batch`) and induction over the list, in
--- step with the history of its calls; the rest from these. Assumes nothing.
+-- REQUEST (xi) IS KEPT. The rows by the three tests in their order; what is left and answered by `one-by-one` (`batch`) and induction over
+-- the list, in step with the history of its calls; the rest from these. Assumes nothing.
 use mathlib.Core.Path.{_≡_, refl, sym, _∙_, ap, subst}
 use mathlib.Core.Bool.{Bool, true, false, _&&_}
 use mathlib.Core.List.{List, [], _∷_, _++_}
@@ -28,7 +28,8 @@ use Rattle.calls.specs.ByValue.{callA, handedBack}
 use Rattle.calls.specs.Histories.{Box, box, Event, asks, writes, writeB, asked, after, setUpOn, HeldIn, calls-held, goes, from-set-up}
 use Rattle.arena.specs.Record.{numbers}
 use Rattle.batch.specs.declared.Whole.{Whole}
-use Rattle.batch.specs.BatchBytes.{Said, said, byKind, callAt, writeAt, stepAt, Ran, runs, listsFit, made, Ended, ended, endsAs, batchA, alone, endsAlone, oneByOne}
+use Rattle.batch.specs.BatchBytes.{Said, said, byKind, callAt, writeAt, stepAt, Ran, runs, listsFit, made, Ended, ended, endsAs, batchA}
+use Rattle.batch.specs.BatchBytes.{alone, endsAlone, oneByOne}
 use Rattle.batch.specs.BatchBytes as code
 use Rattle.batch.specs.BatchLaws as laws
 use Rattle.batch.specs.OneByOne.{one-by-one}
@@ -79,8 +80,11 @@ unfolding listsFit
 lists-short m n = pick-three (eqb (m % 3) 0) (leb (2 * (m / 3)) n) refl refl
   where
     pick-three : (a b : Bool) → eqb (m % 3) 0 ≡ a → leb (2 * (m / 3)) n ≡ b → (a && b) ≡ false ↔ (m % 3 ≡ 0 → ⊥) ⊎ (n < 2 * (m / 3))
-    pick-three true true p q =
-        ((λ z. false-true (sym z)), ⊎-elim (λ f. absurd (f (eqb-true (m % 3) 0 p))) (λ l. absurd (let z : ⊥ = omega (arith, l, leb-true (2 * (m / 3)) n q) in z)))
+    pick-three true true p q = (
+      (λ z. false-true (sym z)),
+      ⊎-elim (λ f. absurd (f (eqb-true (m % 3) 0 p)))
+          (λ l. absurd (let z : ⊥ = omega (arith, l, leb-true (2 * (m / 3)) n q) in z)),
+    )
     pick-three true false p q = ((λ z. inr (leb-false (2 * (m / 3)) n q)), (λ z. refl))
     pick-three false b p q = ((λ z. inl (eqb-false (m % 3) 0 p)), (λ z. refl))
 
@@ -99,9 +103,12 @@ module _ (c : Control) (w cs xs : List ℕ) where
 
   number : batchA wide c w cs xs .refusal ≡ code-of (allowedCount (length w)) (soundB wide (image c) w) fit
   unfolding batchA
-  number = three (endsAs (runs (made wide) (store (image c) w) cs xs 0 (length cs / 3))) refl (allowedCount (length w)) (soundB wide (image c) w) fit
+  number =
+      three (endsAs (runs (made wide) (store (image c) w) cs xs 0 (length cs / 3))) refl (allowedCount (length w))
+      (soundB wide (image c) w) fit
     where
-      three : (b : Ended) → b .refusal ≡ 0 → (a s l : Bool) → pick a (pick s (pick l b (ended 8 c w xs)) (ended 2 c w xs)) (ended 1 c w xs) .refusal ≡ code-of a s l
+      three : (b : Ended) → b .refusal ≡ 0 → (a s l : Bool)
+          → pick a (pick s (pick l b (ended 8 c w xs)) (ended 2 c w xs)) (ended 1 c w xs) .refusal ≡ code-of a s l
       three b q true true true = q
       three b q true true false = refl
       three b q true false l = refl
@@ -123,29 +130,37 @@ module _ (c : Control) (w cs xs : List ℕ) where
 
     row-2 : batchA wide c w cs xs .refusal ≡ 2 ↔ (allowedCount (length w) ≡ true) × (Sound wide c w → ⊥)
     row-2 =
-        let u = is-2 (allowedCount (length w)) (soundB wide (image c) w) fit in
-        ((λ q. let z = u .0 (sym number ∙ q) in (z .0, λ s. clash (there s) (z .1))), (λ z. number ∙ u .1 (z .0, not-both (soundB wide (image c) w) (λ q. z .1 (yes q)))))
+        let u = is-2 (allowedCount (length w)) (soundB wide (image c) w) fit in (
+          (λ q. let z = u .0 (sym number ∙ q) in (z .0, λ s. clash (there s) (z .1))),
+          (λ z. number ∙ u .1 (z .0, not-both (soundB wide (image c) w) (λ q. z .1 (yes q)))),
+        )
 
     row-8 : batchA wide c w cs xs .refusal ≡ 8 ↔ Sound wide c w × ((length cs % 3 ≡ 0 → ⊥) ⊎ (length xs < 2 * (length cs / 3)))
     row-8 =
         let u = is-8 (allowedCount (length w)) (soundB wide (image c) w) fit in
-        let v = lists-short (length cs) (length xs) in
-        ((λ q. let z = u .0 (sym number ∙ q) in (yes (z .1), v .0 (z .2))), (λ z. number ∙ u .1 (allowed (z .0 .0) (z .0 .1), there (z .0), v .1 (z .1))))
+        let v = lists-short (length cs) (length xs) in (
+          (λ q. let z = u .0 (sym number ∙ q) in (yes (z .1), v .0 (z .2))),
+          (λ z. number ∙ u .1 (allowed (z .0 .0) (z .0 .1), there (z .0), v .1 (z .1))),
+        )
 
     row-0 : batchA wide c w cs xs .refusal ≡ 0 ↔ Sound wide c w × (length cs % 3 ≡ 0) × (2 * (length cs / 3) ≤ length xs)
     row-0 =
         let u = is-0 (allowedCount (length w)) (soundB wide (image c) w) fit in
-        let v = lists-fit (length cs) (length xs) in
-        ((λ q. let z = u .0 (sym number ∙ q) in (yes (z .1), v .0 (z .2) .0, v .0 (z .2) .1)), (λ z. number ∙ u .1 (allowed (z .0 .0) (z .0 .1), there (z .0), v .1 (z .1, z .2))))
+        let v = lists-fit (length cs) (length xs) in (
+          (λ q. let z = u .0 (sym number ∙ q) in (yes (z .1), v .0 (z .2) .0, v .0 (z .2) .1)),
+          (λ z. number ∙ u .1 (allowed (z .0 .0) (z .0 .1), there (z .0), v .1 (z .1, z .2))),
+        )
 
   abbrev Quiet : Ended → Type 0
   Quiet b = (b .refusal ≡ 0 → ⊥) → (b .control ≡ c) × (b .words ≡ w) × (b .answers ≡ xs)
 
-  unchanged : (batchA wide c w cs xs .refusal ≡ 0 → ⊥) → (batchA wide c w cs xs .control ≡ c) × (batchA wide c w cs xs .words ≡ w) × (batchA wide c w cs xs .answers ≡ xs)
+  unchanged : (batchA wide c w cs xs .refusal ≡ 0 → ⊥)
+      → (batchA wide c w cs xs .control ≡ c) × (batchA wide c w cs xs .words ≡ w) × (batchA wide c w cs xs .answers ≡ xs)
   unfolding batchA
   unchanged =
       pick-case Quiet (allowedCount (length w))
-      (λ _. pick-case Quiet (soundB wide (image c) w) (λ _. pick-case Quiet fit (λ _ n. absurd (n refl)) (λ _ n. (refl, refl, refl))) (λ _ n. (refl, refl, refl)))
+      (λ _. pick-case Quiet (soundB wide (image c) w) (λ _. pick-case Quiet fit (λ _ n. absurd (n refl)) (λ _ n. (refl, refl, refl)))
+      (λ _ n. (refl, refl, refl)))
       (λ _ n. (refl, refl, refl))
 
   -- ---- the list for the answers
@@ -153,19 +168,24 @@ module _ (c : Control) (w cs xs : List ℕ) where
   abbrev Listed : (List ℕ → Type 0) → Ended → Type 0
   Listed P b = P (b .answers)
 
-  of-answers : (P : List ℕ → Type 0) → P xs → P (runs (made wide) (store (image c) w) cs xs 0 (length cs / 3) .answers) → P (batchA wide c w cs xs .answers)
+  of-answers : (P : List ℕ → Type 0) → P xs → P (runs (made wide) (store (image c) w) cs xs 0 (length cs / 3) .answers)
+      → P (batchA wide c w cs xs .answers)
   unfolding batchA
   of-answers P p q =
-      pick-case (Listed P) (allowedCount (length w)) (λ _. pick-case (Listed P) (soundB wide (image c) w) (λ _. pick-case (Listed P) fit (λ _. q) (λ _. p)) (λ _. p)) (λ _. p)
+      pick-case (Listed P) (allowedCount (length w))
+      (λ _. pick-case (Listed P) (soundB wide (image c) w) (λ _. pick-case (Listed P) fit (λ _. q) (λ _. p)) (λ _. p)) (λ _. p)
 
   long : length (batchA wide c w cs xs .answers) ≡ length xs
   long = of-answers (λ ys. length ys ≡ length xs) refl (laws.answers-long (made wide) (store (image c) w) cs xs 0 (length cs / 3))
 
   past-last : (k : ℕ) → 2 * (length cs / 3) ≤ k → getD (batchA wide c w cs xs .answers) k 0 ≡ getD xs k 0
-  past-last k l = of-answers (λ ys. getD ys k 0 ≡ getD xs k 0) refl (laws.past-last (made wide) (store (image c) w) cs xs 0 (length cs / 3) k (omega (arith, l)))
+  past-last k l =
+      of-answers (λ ys. getD ys k 0 ≡ getD xs k 0) refl
+      (laws.past-last (made wide) (store (image c) w) cs xs 0 (length cs / 3) k (omega (arith, l)))
 
   -- a whole that runs is its calls, one at a time
-  ran : Fits c → batchA wide c w cs xs .refusal ≡ 0 → batchA wide c w cs xs ≡ endsAlone (runs (alone wide) (box c w) cs xs 0 (length cs / 3))
+  ran : Fits c → batchA wide c w cs xs .refusal ≡ 0
+      → batchA wide c w cs xs ≡ endsAlone (runs (alone wide) (box c w) cs xs 0 (length cs / 3))
   unfolding oneByOne
   ran f q =
       let z = is-0 (allowedCount (length w)) (soundB wide (image c) w) fit .0 (sym number ∙ q) in
@@ -191,7 +211,8 @@ module _ {S : Type 0} (f : S → Call → Said S) where
       let o = pick (eqb k 3) (some (Memalign x y)) none in
       let n = pick (eqb k 2) (some (Realloc x y)) o in
       two s (eqb k 0) (some (Malloc x)) (pick (eqb k 1) (some (Free x)) n) refl
-      (two s (eqb k 1) (some (Free x)) n refl (two s (eqb k 2) (some (Realloc x y)) o refl (two s (eqb k 3) (some (Memalign x y)) none refl refl)))
+      (two s (eqb k 1) (some (Free x)) n refl
+      (two s (eqb k 2) (some (Realloc x y)) o refl (two s (eqb k 3) (some (Memalign x y)) none refl refl)))
 
   -- lists that say the same calls
   same-runs : (s : S) (cs ds xs : List ℕ) (i n : ℕ) → 3 * (i + n) ≤ length cs → ((i : ℕ) → 3 * i < length cs → listed cs i ≡ listed ds i)
@@ -211,24 +232,28 @@ module _ {S : Type 0} (f : S → Call → Said S) where
   stays s cs xs i (suc n) k l =
       let a = callAt f s cs i in
       stays (a .left) cs (writeAt xs i (a .refusal) (a .offset)) (i + 1) n k (omega arith)
-      ∙ getD-set-other (set xs (2 * i) (a .refusal)) (2 * i + 1) k (a .offset) 0 (λ z. omega arith) ∙ getD-set-other xs (2 * i) k (a .refusal) 0 (λ z. omega arith)
+      ∙ getD-set-other (set xs (2 * i) (a .refusal)) (2 * i + 1) k (a .offset) 0 (λ z. omega arith)
+      ∙ getD-set-other xs (2 * i) k (a .refusal) 0 (λ z. omega arith)
 
 -- the whole, of the number of the calls' words and of what the calls end in
 abbrev whole : Control → List ℕ → List ℕ → ℕ → Ended → Ended
 whole c w xs n b =
-    pick (allowedCount (length w)) (pick (soundB wide (image c) w) (pick (listsFit n (length xs)) b (ended 8 c w xs)) (ended 2 c w xs)) (ended 1 c w xs)
+    pick (allowedCount (length w)) (pick (soundB wide (image c) w) (pick (listsFit n (length xs)) b (ended 8 c w xs)) (ended 2 c w xs))
+    (ended 1 c w xs)
 
 ignored : (c : Control) (w cs ds xs : List ℕ) → length cs ≡ length ds → ((i : ℕ) → 3 * i < length cs → listed cs i ≡ listed ds i)
     → batchA wide c w cs xs ≡ batchA wide c w ds xs
 unfolding batchA
 ignored c w cs ds xs l g =
-    ap (λ (x : Ran Store). whole c w xs (length cs) (endsAs x)) (same-runs (made wide) (store (image c) w) cs ds xs 0 (length cs / 3) (omega arith) g)
+    ap (λ (x : Ran Store). whole c w xs (length cs) (endsAs x))
+    (same-runs (made wide) (store (image c) w) cs ds xs 0 (length cs / 3) (omega arith) g)
     ∙ ap (λ (n : ℕ). whole c w xs n (endsAs (runs (made wide) (store (image c) w) ds xs 0 (n / 3)))) l
 
 -- ---- in step with the history of the calls
 
 -- what is left after one of the list
-one-left : (s : Box) (cs : List ℕ) (i : ℕ) (es : List Event) → after wide (callAt (alone wide) s cs i .left) es ≡ after wide s (before (listed cs i) es)
+one-left : (s : Box) (cs : List ℕ) (i : ℕ) (es : List Event)
+    → after wide (callAt (alone wide) s cs i .left) es ≡ after wide s (before (listed cs i) es)
 one-left s cs i es = ap (λ (z : Said Box). after wide (z .left) es) (call-is (alone wide) s cs i) ∙ go (listed cs i)
   where
     go : (o : Option Call) → after wide (lineBy (alone wide) s o .left) es ≡ after wide s (before o es)
@@ -246,7 +271,8 @@ leaves : (c : Control) (w cs xs : List ℕ) → Fits c → batchA wide c w cs xs
     → box (batchA wide c w cs xs .control) (batchA wide c w cs xs .words) ≡ after wide (box c w) (schedule cs 0 (length cs / 3))
 leaves c w cs xs f q = ap (λ (b : Ended). box (b .control) (b .words)) (ran c w cs xs f q) ∙ left-is (box c w) cs xs 0 (length cs / 3)
 
-within : (c : Control) (w cs xs : List ℕ) → Fits c → (length (batchA wide c w cs xs .words) ≡ length w) × (length (batchA wide c w cs xs .answers) ≡ length xs)
+within : (c : Control) (w cs xs : List ℕ) → Fits c
+    → (length (batchA wide c w cs xs .words) ≡ length w) × (length (batchA wide c w cs xs .answers) ≡ length xs)
 within c w cs xs f = (
   ⊎-elim (λ q. let h = row-0 c w cs xs f .0 q .0 in
       ap (λ (s : Box). length (s .words)) (leaves c w cs xs f q) ∙ goes wide (box c w) (h .0) (h .1) (schedule cs 0 (length cs / 3)) .count)
@@ -274,13 +300,16 @@ line-offset : (s : Box) (o : Option Call) → lineBy (alone wide) s o .offset �
 line-offset s none = refl
 line-offset s (some k) = placed-is (callA wide (s .control) (s .words) k .answer)
 
-answer-at : (s : Box) (cs xs : List ℕ) (i n j p : ℕ) → p ≡ i + j → j < n → 2 * (i + n) ≤ length xs → Says (runs (alone wide) s cs xs i n .answers) p (after wide s (schedule cs i j)) (listed cs p)
+answer-at : (s : Box) (cs xs : List ℕ) (i n j p : ℕ) → p ≡ i + j → j < n → 2 * (i + n) ≤ length xs
+    → Says (runs (alone wide) s cs xs i n .answers) p (after wide s (schedule cs i j)) (listed cs p)
 unfolding runs stepAt
 answer-at s cs xs i zero j p e l m = absurd (let z : ⊥ = omega arith in z)
 answer-at s cs xs i (suc n) zero p e l m =
-    subst (λ (q : ℕ). Says (runs (alone wide) (a .left) cs (writeAt xs i (a .refusal) (a .offset)) (i + 1) n .answers) q s (listed cs q)) (let z : i ≡ p = omega arith in z) (
+    subst (λ (q : ℕ). Says (runs (alone wide) (a .left) cs (writeAt xs i (a .refusal) (a .offset)) (i + 1) n .answers) q s (listed cs q))
+    (let z : i ≡ p = omega arith in z) (
       stays (alone wide) (a .left) cs (writeAt xs i (a .refusal) (a .offset)) (i + 1) n (2 * i) (omega arith)
-          ∙ getD-set-other (set xs (2 * i) (a .refusal)) (2 * i + 1) (2 * i) (a .offset) 0 (λ z. omega arith) ∙ getD-set-same xs (2 * i) (a .refusal) 0 (omega arith)
+          ∙ getD-set-other (set xs (2 * i) (a .refusal)) (2 * i + 1) (2 * i) (a .offset) 0 (λ z. omega arith)
+          ∙ getD-set-same xs (2 * i) (a .refusal) 0 (omega arith)
           ∙ ap (λ (z : Said Box). z .refusal) (call-is (alone wide) s cs i) ∙ line-refusal s (listed cs i),
       stays (alone wide) (a .left) cs (writeAt xs i (a .refusal) (a .offset)) (i + 1) n (2 * i + 1) (omega arith)
           ∙ getD-set-same (set xs (2 * i) (a .refusal)) (2 * i + 1) (a .offset) 0 (simp length-set (omega arith))
@@ -291,8 +320,10 @@ answer-at s cs xs i (suc n) zero p e l m =
     a = callAt (alone wide) s cs i
 answer-at s cs xs i (suc n) (suc j) p e l m =
     let a = callAt (alone wide) s cs i in
-    subst (λ (t : Box). Says (runs (alone wide) (a .left) cs (writeAt xs i (a .refusal) (a .offset)) (i + 1) n .answers) p t (listed cs p)) (one-left s cs i (schedule cs (i + 1) j))
-    (answer-at (a .left) cs (writeAt xs i (a .refusal) (a .offset)) (i + 1) n j p (omega arith) (omega arith) (simp length-set (omega arith)))
+    subst (λ (t : Box). Says (runs (alone wide) (a .left) cs (writeAt xs i (a .refusal) (a .offset)) (i + 1) n .answers) p t
+    (listed cs p)) (one-left s cs i (schedule cs (i + 1) j))
+    (answer-at (a .left) cs (writeAt xs i (a .refusal) (a .offset)) (i + 1) n j p (omega arith) (omega arith)
+    (simp length-set (omega arith)))
 
 -- a free grants nothing
 abbrev Zero : Told → Type 0
@@ -302,7 +333,8 @@ freed : (c : Control) (w : List ℕ) (off : ℕ) → placed (callA wide c w (Fre
 unfolding callA callB
 freed c w off =
     pick-case Zero (allowedCount (length w))
-    (λ _. pick-case Zero (soundB wide (image c) w) (λ _. pick-case Zero (liveB wide w (getD (image c) 4 0) off) (λ _. refl) (λ _. refl)) (λ _. refl))
+    (λ _. pick-case Zero (soundB wide (image c) w) (λ _. pick-case Zero (liveB wide w (getD (image c) 4 0) off) (λ _. refl) (λ _. refl))
+    (λ _. refl))
     (λ _. refl)
 
 module _ (c : Control) (w cs xs : List ℕ) (i : ℕ) (f : Fits c) (q : batchA wide c w cs xs .refusal ≡ 0) (l : 3 * i < length cs) where
@@ -315,16 +347,27 @@ module _ (c : Control) (w cs xs : List ℕ) (i : ℕ) (f : Fits c) (q : batchA w
       subst (λ (b : Ended). Says (b .answers) i (after wide (box c w) (schedule cs 0 i)) (listed cs i)) (sym (ran c w cs xs f q))
       (answer-at (box c w) cs xs 0 (length cs / 3) i i (omega arith) (omega (arith, l, z .1)) (omega (arith, z .2)))
 
-  unknown-9 : 3 < getD cs (3 * i) 0 → (getD (batchA wide c w cs xs .answers) (2 * i) 0 ≡ 9) × (getD (batchA wide c w cs xs .answers) (2 * i + 1) 0 ≡ 0)
-  unknown-9 k = subst (Says (batchA wide c w cs xs .answers) i at) (no-call (getD cs (3 * i) 0) (getD cs (3 * i + 1) 0) (getD cs (3 * i + 2) 0) k) answers
+  unknown-9 : 3 < getD cs (3 * i) 0
+      → (getD (batchA wide c w cs xs .answers) (2 * i) 0 ≡ 9) × (getD (batchA wide c w cs xs .answers) (2 * i + 1) 0 ≡ 0)
+  unknown-9 k =
+      subst (Says (batchA wide c w cs xs .answers) i at)
+      (no-call (getD cs (3 * i) 0) (getD cs (3 * i + 1) 0) (getD cs (3 * i + 2) 0) k) answers
     where
       no-call : (k x y : ℕ) → 3 < k → callOf k x y ≡ none
-      no-call k x y l = rw (ne-eqb k 0 (λ z. omega arith), ne-eqb k 1 (λ z. omega arith), ne-eqb k 2 (λ z. omega arith), ne-eqb k 3 (λ z. omega arith)) refl
+      no-call k x y l =
+          rw (
+            ne-eqb k 0 (λ z. omega arith),
+            ne-eqb k 1 (λ z. omega arith),
+            ne-eqb k 2 (λ z. omega arith),
+            ne-eqb k 3 (λ z. omega arith),
+          ) refl
 
-  offset-0 : (getD (batchA wide c w cs xs .answers) (2 * i) 0 ≡ 0 → ⊥) ⊎ (getD cs (3 * i) 0 ≡ 1) → getD (batchA wide c w cs xs .answers) (2 * i + 1) 0 ≡ 0
+  offset-0 : (getD (batchA wide c w cs xs .answers) (2 * i) 0 ≡ 0 → ⊥) ⊎ (getD cs (3 * i) 0 ≡ 1)
+      → getD (batchA wide c w cs xs .answers) (2 * i + 1) 0 ≡ 0
   offset-0 u =
       answers .1 ∙ ⊎-elim (λ n. no-grant (listed cs i) (λ z. n (answers .0 ∙ z)))
-      (λ k. ap (offsetOf at) (ap (λ (z : ℕ). callOf z (getD cs (3 * i + 1) 0) (getD cs (3 * i + 2) 0)) k) ∙ freed (at .control) (at .words) (getD cs (3 * i + 1) 0)) u
+      (λ k. ap (offsetOf at) (ap (λ (z : ℕ). callOf z (getD cs (3 * i + 1) 0) (getD cs (3 * i + 2) 0)) k)
+      ∙ freed (at .control) (at .words) (getD cs (3 * i + 1) 0)) u
     where
       quiet : (a : Answer) → (refusal a ≡ 0 → ⊥) → placed a ≡ 0
       quiet (granted b) n = absurd (n refl)
@@ -343,7 +386,8 @@ after-both s [] fs = refl
 after-both s (asks k ∷ es) fs = after-both (asked wide s k) es fs
 after-both s (writes off k v ∷ es) fs = after-both (box (s .control) (writeB wide s off k v)) es fs
 
-in-a-history : (w : List ℕ) (es : List Event) (cs xs : List ℕ) → allowedCount (length w) ≡ true → length cs % 3 ≡ 0 → 2 * (length cs / 3) ≤ length xs
+in-a-history : (w : List ℕ) (es : List Event) (cs xs : List ℕ) → allowedCount (length w) ≡ true → length cs % 3 ≡ 0
+    → 2 * (length cs / 3) ≤ length xs
     → let s = after wide (setUpOn wide w) es in let b = batchA wide (s .control) (s .words) cs xs in
     (b .refusal ≡ 0) × (box (b .control) (b .words) ≡ after wide (setUpOn wide w) (es ++ schedule cs 0 (length cs / 3)))
 in-a-history w es cs xs a m r =
@@ -382,13 +426,15 @@ one-heap s t o k =
 
 -- on a sound pair: the calls, or 8
 sound-batch : (c : Control) (w cs xs : List ℕ) (h : Heap) → Holds wide c w h
-    → batchA wide c w cs xs ≡ pick (listsFit (length cs) (length xs)) (endsAlone (runs (alone wide) (box c w) cs xs 0 (length cs / 3))) (ended 8 c w xs)
+    → batchA wide c w cs xs ≡ pick (listsFit (length cs) (length xs)) (endsAlone (runs (alone wide) (box c w) cs xs 0 (length cs / 3)))
+    (ended 8 c w xs)
 unfolding oneByOne
 sound-batch c w cs xs h n =
     let f = held-fits wide c w h [] n in
     one-by-one wide c w cs xs f ∙ rw (allowed c w cs xs h n, there c w cs xs f (h, n)) refl
 
-same-answers : (c : Control) (w v cs xs : List ℕ) (h : Heap) → Holds wide c w h → length v ≡ length w → ((i : ℕ) → Governed h i → getD v i 0 ≡ getD w i 0)
+same-answers : (c : Control) (w v cs xs : List ℕ) (h : Heap) → Holds wide c w h → length v ≡ length w
+    → ((i : ℕ) → Governed h i → getD v i 0 ≡ getD w i 0)
     → (batchA wide c v cs xs .refusal ≡ batchA wide c w cs xs .refusal) × (batchA wide c v cs xs .answers ≡ batchA wide c w cs xs .answers)
 same-answers c w v cs xs h n l g = (
   ap (λ (b : Ended). b .refusal) p ∙ two (listsFit (length cs) (length xs)) .0 ∙ sym (ap (λ (b : Ended). b .refusal) q),
@@ -398,18 +444,24 @@ same-answers c w v cs xs h n l g = (
     m : Holds wide c v h
     m = governed-frame wide c w h [] n v l g
 
-    p : batchA wide c v cs xs ≡ pick (listsFit (length cs) (length xs)) (endsAlone (runs (alone wide) (box c v) cs xs 0 (length cs / 3))) (ended 8 c v xs)
+    p : batchA wide c v cs xs ≡ pick (listsFit (length cs) (length xs)) (endsAlone (runs (alone wide) (box c v) cs xs 0 (length cs / 3)))
+        (ended 8 c v xs)
     p = sound-batch c v cs xs h m
 
-    q : batchA wide c w cs xs ≡ pick (listsFit (length cs) (length xs)) (endsAlone (runs (alone wide) (box c w) cs xs 0 (length cs / 3))) (ended 8 c w xs)
+    q : batchA wide c w cs xs ≡ pick (listsFit (length cs) (length xs)) (endsAlone (runs (alone wide) (box c w) cs xs 0 (length cs / 3)))
+        (ended 8 c w xs)
     q = sound-batch c w cs xs h n
 
     step : laws.InStep OneHeap (runs (alone wide) (box c v) cs xs 0 (length cs / 3)) (runs (alone wide) (box c w) cs xs 0 (length cs / 3))
-    step = laws.in-step (alone wide) (alone wide) OneHeap one-heap (box c v) (box c w) (record { heap = h; here = m; there = n; count = l }) cs xs 0 (length cs / 3)
+    step =
+        laws.in-step (alone wide) (alone wide) OneHeap one-heap (box c v) (box c w)
+        (record { heap = h; here = m; there = n; count = l }) cs xs 0 (length cs / 3)
 
     two : (b : Bool)
-        → (pick b (endsAlone (runs (alone wide) (box c v) cs xs 0 (length cs / 3))) (ended 8 c v xs) .refusal ≡ pick b (endsAlone (runs (alone wide) (box c w) cs xs 0 (length cs / 3))) (ended 8 c w xs) .refusal)
-        × (pick b (endsAlone (runs (alone wide) (box c v) cs xs 0 (length cs / 3))) (ended 8 c v xs) .answers ≡ pick b (endsAlone (runs (alone wide) (box c w) cs xs 0 (length cs / 3))) (ended 8 c w xs) .answers)
+        → (pick b (endsAlone (runs (alone wide) (box c v) cs xs 0 (length cs / 3))) (ended 8 c v xs) .refusal
+        ≡ pick b (endsAlone (runs (alone wide) (box c w) cs xs 0 (length cs / 3))) (ended 8 c w xs) .refusal)
+        × (pick b (endsAlone (runs (alone wide) (box c v) cs xs 0 (length cs / 3))) (ended 8 c v xs) .answers
+        ≡ pick b (endsAlone (runs (alone wide) (box c w) cs xs 0 (length cs / 3))) (ended 8 c w xs) .answers)
     two true = (refl, step .answers)
     two false = (refl, refl)
 
@@ -419,7 +471,8 @@ abbrev wholeOf : Ended → Whole
 wholeOf b = record { refusal = b .refusal; control = settling.control (b .control) }
 
 settled : (c : Control) (w v v′ cs xs ys ys′ : List ℕ) (x x′ : Whole)
-    → ended (x .refusal) (numbers (x .control)) v ys ≡ batchA wide c w cs xs → ended (x′ .refusal) (numbers (x′ .control)) v′ ys′ ≡ batchA wide c w cs xs
+    → ended (x .refusal) (numbers (x .control)) v ys ≡ batchA wide c w cs xs
+    → ended (x′ .refusal) (numbers (x′ .control)) v′ ys′ ≡ batchA wide c w cs xs
     → (x ≡ x′) × (v ≡ v′) × (ys ≡ ys′)
 settled c w v v′ cs xs ys ys′ x x′ p q =
     let z = p ∙ sym q in (sym (back x) ∙ ap wholeOf z ∙ back x′, ap (λ (b : Ended). b .words) z, ap (λ (b : Ended). b .answers) z)

@@ -1,4 +1,5 @@
--- DOCUMENT 02'S REQUESTS, one record each, in its own numbers. Below, c is the numbers of a record by value, w the arena's words. Assumes nothing.
+-- DOCUMENT 02'S REQUESTS, one record each, in its own numbers. Below, c is the numbers of a record by value, w the arena's words. Assumes
+-- nothing.
 use mathlib.Core.Path.{_≡_}
 use mathlib.Core.Bool.{true, false}
 use mathlib.Core.List.{List, [], _∷_, _++_}
@@ -81,29 +82,36 @@ pub record Batch : Type 0 where
   -- The i-th answer is that of the i-th call, made by itself on what the calls before it have left: its refusal, then its offset.
   pub answers : (c : Control) (w cs xs : List ℕ) (i : ℕ) → Fits c → batchA wide c w cs xs .refusal ≡ 0 → 3 * i < length cs
       → let s = after wide (box c w) (schedule cs 0 i) in
-      (getD (batchA wide c w cs xs .answers) (2 * i) 0 ≡ refusalOf s (listed cs i)) × (getD (batchA wide c w cs xs .answers) (2 * i + 1) 0 ≡ offsetOf s (listed cs i))
+      (getD (batchA wide c w cs xs .answers) (2 * i) 0 ≡ refusalOf s (listed cs i)) ×
+      (getD (batchA wide c w cs xs .answers) (2 * i + 1) 0 ≡ offsetOf s (listed cs i))
   -- An unknown kind answers 9, 0. (It is no call of the list, so by `leaves` and `answers` it changes nothing and the batch goes on.)
-  pub unknown-9 : (c : Control) (w cs xs : List ℕ) (i : ℕ) → Fits c → batchA wide c w cs xs .refusal ≡ 0 → 3 * i < length cs → 3 < getD cs (3 * i) 0
+  pub unknown-9 : (c : Control) (w cs xs : List ℕ) (i : ℕ) → Fits c → batchA wide c w cs xs .refusal ≡ 0 → 3 * i < length cs
+      → 3 < getD cs (3 * i) 0
       → (getD (batchA wide c w cs xs .answers) (2 * i) 0 ≡ 9) × (getD (batchA wide c w cs xs .answers) (2 * i + 1) 0 ≡ 0)
   -- A refusal has offset 0, and so has the "done" of a free.
   pub offset-0 : (c : Control) (w cs xs : List ℕ) (i : ℕ) → Fits c → batchA wide c w cs xs .refusal ≡ 0 → 3 * i < length cs
-      → (getD (batchA wide c w cs xs .answers) (2 * i) 0 ≡ 0 → ⊥) ⊎ (getD cs (3 * i) 0 ≡ 1) → getD (batchA wide c w cs xs .answers) (2 * i + 1) 0 ≡ 0
+      → (getD (batchA wide c w cs xs .answers) (2 * i) 0 ≡ 0 → ⊥) ⊎ (getD cs (3 * i) 0 ≡ 1)
+      → getD (batchA wide c w cs xs .answers) (2 * i + 1) 0 ≡ 0
   -- Words past the last answer stay.
-  pub past-last : (c : Control) (w cs xs : List ℕ) (k : ℕ) → 2 * (length cs / 3) ≤ k → getD (batchA wide c w cs xs .answers) k 0 ≡ getD xs k 0
+  pub past-last : (c : Control) (w cs xs : List ℕ) (k : ℕ) → 2 * (length cs / 3) ≤ k
+      → getD (batchA wide c w cs xs .answers) k 0 ≡ getD xs k 0
   -- A number that a kind doesn't use is ignored: lists of one length that say the same calls get the same.
   pub ignored : (c : Control) (w cs ds xs : List ℕ) → length cs ≡ length ds → ((i : ℕ) → 3 * i < length cs → listed cs i ≡ listed ds i)
       → batchA wide c w cs xs ≡ batchA wide c w ds xs
   -- In a history of demand 3 a batch is nothing but its calls: it is refused for its lists' lengths alone, and leaves what they leave.
-  pub in-a-history : (w : List ℕ) (es : List Event) (cs xs : List ℕ) → allowedCount (length w) ≡ true → length cs % 3 ≡ 0 → 2 * (length cs / 3) ≤ length xs
+  pub in-a-history : (w : List ℕ) (es : List Event) (cs xs : List ℕ) → allowedCount (length w) ≡ true → length cs % 3 ≡ 0
+      → 2 * (length cs / 3) ≤ length xs
       → let s = after wide (setUpOn wide w) es in let b = batchA wide (s .control) (s .words) cs xs in
       (b .refusal ≡ 0) × (box (b .control) (b .words) ≡ after wide (setUpOn wide w) (es ++ schedule cs 0 (length cs / 3)))
   -- What may sway an answer: beside the lists, only what sways a call. Two arenas that agree in document 01's list get the same answers.
   pub same-answers : (c : Control) (w v cs xs : List ℕ) (h : Heap) → Holds wide c w h → length v ≡ length w
       → ((i : ℕ) → Governed h i → getD v i 0 ≡ getD w i 0)
-      → (batchA wide c v cs xs .refusal ≡ batchA wide c w cs xs .refusal) × (batchA wide c v cs xs .answers ≡ batchA wide c w cs xs .answers)
+      → (batchA wide c v cs xs .refusal ≡ batchA wide c w cs xs .refusal) ×
+      (batchA wide c v cs xs .answers ≡ batchA wide c w cs xs .answers)
   -- No second outcome: two that both fit the contract, in the types of the code, are one. (The list of calls is only read.)
   pub settled : (c : Control) (w v v′ cs xs ys ys′ : List ℕ) (x x′ : Whole)
-      → ended (x .refusal) (numbers (x .control)) v ys ≡ batchA wide c w cs xs → ended (x′ .refusal) (numbers (x′ .control)) v′ ys′ ≡ batchA wide c w cs xs
+      → ended (x .refusal) (numbers (x .control)) v ys ≡ batchA wide c w cs xs
+      → ended (x′ .refusal) (numbers (x′ .control)) v′ ys′ ≡ batchA wide c w cs xs
       → (x ≡ x′) × (v ≡ v′) × (ys ≡ ys′)
 
 -- ALL OF THEM.

@@ -24,7 +24,9 @@ is-in x y f q = sym (ap (λ z. isIn z (alignments wide)) q ∙ f)
 
 pub aligned-yes : (x : ℕ) → Among x → true ≡ isIn x (alignments wide)
 aligned-yes x =
-    ⊎-elim (is-in x 32 refl) (⊎-elim (is-in x 64 refl) (⊎-elim (is-in x 128 refl) (⊎-elim (is-in x 256 refl) (⊎-elim (is-in x 512 refl) (⊎-elim (is-in x 1024 refl) (⊎-elim (is-in x 2048 refl) (is-in x 4096 refl)))))))
+    ⊎-elim (is-in x 32 refl) (⊎-elim (is-in x 64 refl)
+    (⊎-elim (is-in x 128 refl) (⊎-elim (is-in x 256 refl)
+    (⊎-elim (is-in x 512 refl) (⊎-elim (is-in x 1024 refl) (⊎-elim (is-in x 2048 refl) (is-in x 4096 refl)))))))
 
 pub aligned-no : (x : ℕ) → (Among x → ⊥) → false ≡ isIn x (alignments wide)
 aligned-no x f =
