@@ -19,9 +19,9 @@ use Rattle.holds.specs.Holds.{Control}
 use Rattle.calls.specs.Record.{reads, image}
 use Rattle.calls.specs.ByValue.{ends, setUpA}
 use Rattle.calls.specs.RecordLaws.{reads-all}
-use Rattle.batch.specs.BatchBytes.{Batched, batched, batchM}
+use Rattle.batch.specs.BatchBytes.{batched, batchM}
 use Rattle.batch.specs.BatchLaws.{set-batch}
-use Rattle.abi.specs.Words.{said, valueOf, outOf, lentOk, copied, oddRecord, tellC, callC, setC, setUpC, soundC, Ran, ran, answered, countOut, tellBatch, batchC}
+use Rattle.abi.specs.Words.{said, valueOf, outOf, lentOk, copied, oddRecord, tellC, callC, setC, setUpC, soundC, ran, answered, countOut, tellBatch, batchC}
 
 -- ---- what was lent
 

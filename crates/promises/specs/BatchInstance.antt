@@ -1,25 +1,23 @@
 -- ONE BATCH, so that nothing in `Batch` is empty: eight calls on 128 words, among them one of an unknown kind, numbers that no kind uses, a
 -- resize that moves and two refusals. What it answers is computed by the rules, which the calls obey; the promises tell the rest. Assumes
 -- nothing.
-use mathlib.Core.Path.{_≡_, refl, sym, _∙_, ap, subst}
+use mathlib.Core.Path.{_≡_, refl, _∙_, ap}
 use mathlib.Core.List.{List, [], _∷_}
-use mathlib.Core.Option.{Option, none, some}
+use mathlib.Core.Option.{some}
 use mathlib.Core.Logic.{inl, inr}
 use Prim.Native.Nat.{ℕ, zero, suc, _+_, _*_, _<_}
 use native.Mathlib.Omega.{arith}
-use lib.ListN.{length, getD, replicate}
+use lib.ListN.{getD, replicate}
 use Rattle.words.specs.Edition.{wide}
 use Rattle.index.specs.Sizes.{needWords, need, roundUp}
 use Rattle.index.specs.TreeBin.{treeIndex, minSize}
-use Rattle.tiling.specs.Steps.{freshWords}
 use Rattle.rules.specs.BinOf.{huge}
-use Rattle.rules.specs.Heap.{Heap, freshHeap}
+use Rattle.rules.specs.Heap.{freshHeap}
 use Rattle.rules.specs.Calls.{Call, Malloc, Free, Realloc, Memalign, Answer, granted, done, refused, too-many, not-live, answerTo}
-use Rattle.holds.specs.Holds.{Holds, freshControl}
 use Rattle.calls.specs.CallBytes.{refusal}
 use Rattle.calls.specs.RecordLaws.{Fits, held-fits}
 use Rattle.calls.specs.ByValue.{callA}
-use Rattle.calls.specs.Histories.{Box, asks, after, heapAfter, setUpOn, calls-held, from-set-up}
+use Rattle.calls.specs.Histories.{Box, after, heapAfter, setUpOn, calls-held, from-set-up}
 use Rattle.batch.specs.BatchBytes.{Ended, batchA}
 use Rattle.promises.specs.Requests.{listed, schedule, placed, refusalOf, offsetOf}
 use Rattle.promises.specs.AnyInputKept.{fresh-start}

@@ -10,10 +10,10 @@ use native.Mathlib.Omega.{arith}
 use lib.Dec.{eqb, leb}
 use lib.ListN.{length, getD, set, length-set}
 use lib.Seq.{getD-set-same, getD-set-other}
-use borrow.Author.Tests.{eqb-true, eqb-false, leb-true, leb-false, eq-eqb, ne-eqb, le-leb, lt-leb}
-use Rattle.words.specs.Logic.{pick, pick-case, by, same?, false-true}
+use borrow.Author.Tests.{eqb-true, eqb-false, leb-true, leb-false, eq-eqb, ne-eqb, le-leb}
+use Rattle.words.specs.Logic.{pick, pick-case, same?, false-true}
 use Rattle.words.specs.Edition.{wide}
-use Rattle.rules.specs.Heap.{Heap, freshHeap}
+use Rattle.rules.specs.Heap.{Heap}
 use Rattle.rules.specs.Calls.{Call, Malloc, Free, Realloc, Memalign, Answer, granted, done, bytes, refused, answerTo, allowedCount}
 use Rattle.holds.specs.Holds.{Control, Holds, Sound}
 use Rattle.holds.specs.Governed.{Governed, governed-frame}
@@ -24,7 +24,7 @@ use Rattle.calls.specs.CallBytes.{Told, refusal, callB}
 use Rattle.calls.specs.Counts.{count-allowed, count-range}
 use Rattle.calls.specs.Record.{image}
 use Rattle.calls.specs.RecordLaws.{Fits, image-length, decode-image, held-fits}
-use Rattle.calls.specs.ByValue.{callA, handedBack}
+use Rattle.calls.specs.ByValue.{callA}
 use Rattle.calls.specs.Histories.{Box, box, Event, asks, writes, writeB, asked, after, setUpOn, HeldIn, calls-held, goes, from-set-up}
 use Rattle.arena.specs.Record.{numbers}
 use Rattle.batch.specs.declared.Whole.{Whole}

@@ -3,15 +3,6 @@ use Rattle.abi.proofs.AbiCode.{lent-72, lent-2, batch-lost, batch-odd, 
 use borrow.Author.Needs.{needs}
 use Rattle.abi.proofs.nuka_batch.Statement.{statement}
 use Rattle.abi.proofs.nuka_batch.Tie as tie
-use Rattle.abi.proofs.nuka_batch.Reads as reads
-use Rattle.abi.proofs.nuka_batch.Lts as lts
-use Rattle.abi.proofs.answer.odd_record.Reads as odd-record-reads
-use Rattle.abi.proofs.answer.tell.Reads as tell-reads
-use Rattle.abi.proofs.answer.tell_count.Reads as tell-count-reads
-use Rattle.abi.proofs.copy_out.Reads as copy-out-reads
-use Rattle.abi.proofs.image_in.Reads as image-in-reads
-use Rattle.abi.proofs.lent_ok.Reads as lent-ok-reads
-use Rattle.batch.proofs.batch_on_image.Reads as batch-on-image-reads
 
 -- src/lib.rt:187:9
 lent-ok-requires : tie.Need-lent-ok-requires

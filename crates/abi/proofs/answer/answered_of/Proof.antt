@@ -2,8 +2,6 @@ use borrow.Author.Needs.{needs}
 use Rattle.abi.proofs.AbiCode.{answered-none, answered-all}
 use Rattle.abi.proofs.answer.answered_of.Statement.{statement}
 use Rattle.abi.proofs.answer.answered_of.Tie as tie
-use Rattle.abi.proofs.answer.answered_of.Reads as reads
-use Rattle.abi.proofs.answer.answered_of.Lts as lts
 
 -- src/answer.rt:89:9
 returns : tie.Need-returns

@@ -2,9 +2,6 @@ use Rattle.abi.proofs.AbiCode.{count-out}
 use borrow.Author.Needs.{needs}
 use Rattle.abi.proofs.answer.tell_count.Statement.{statement}
 use Rattle.abi.proofs.answer.tell_count.Tie as tie
-use Rattle.abi.proofs.answer.tell_count.Reads as reads
-use Rattle.abi.proofs.answer.tell_count.Lts as lts
-use Rattle.abi.proofs.answer.answered_of.Reads as answered-of-reads
 
 -- src/answer.rt:98:9
 answered-of-requires : tie.Need-answered-of-requires
