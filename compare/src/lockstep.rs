@@ -106,6 +106,9 @@ fn history(lib: &dyn Library, setting: Setting, figures: &mut Figures) -> Result
         let call = maker.next(&pair.heap);
         let granted = take(&mut pair, &mut case, figures, Step::Ask(call.into()))?;
         maker.settle(call, granted.filter(|_| !matches!(call, Call::Free(_))));
+        if let Some(old) = left(call, granted).filter(|_| rng.chance(25)) {
+            take(&mut pair, &mut case, figures, Step::Ask(Ask::Free(old)))?;
+        }
         if let Some(block) = granted.filter(|_| batched == 0) {
             for step in probes::owner(&mut rng, &pair, block) {
                 take(&mut pair, &mut case, figures, step)?;
@@ -124,6 +127,15 @@ fn history(lib: &dyn Library, setting: Setting, figures: &mut Figures) -> Result
         }
     }
     give_all_back(&mut pair, &mut case, &mut rng, figures)
+}
+
+/// The place that a call's block has just left: to free it once more is refused with 5.
+fn left(call: Call, granted: Option<u64>) -> Option<u64> {
+    match call {
+        Call::Free(old) => Some(old),
+        Call::Realloc(old, _) if granted.is_some_and(|now| now != old) => Some(old),
+        _ => None,
+    }
 }
 
 /// Takes a step and counts it; gives the block that a call granted.
