@@ -233,7 +233,8 @@ pub fn run() {
         "nanoseconds a call, {CALLS} calls on {WORDS} words, seed {seed}, {}",
         std::env::consts::ARCH
     );
-    println!("| trace | live at the end | batch: best, middle | the crate: best, middle | times: best, middle | one at a time: best | times |");
+    print!("| trace | live at the end | batch: best, middle | the crate: best, middle ");
+    println!("| times: best, middle | one at a time: best | times |");
     println!("|---|---|---|---|---|---|---|");
     for kind in &KINDS {
         let trace = trace(kind, seed);

@@ -103,7 +103,8 @@ pub record Batch : Type 0 where
       → 2 * (length cs / 3) ≤ length xs
       → let s = after wide (setUpOn wide w) es in let b = batchA wide (s .control) (s .words) cs xs in
       (b .refusal ≡ 0) × (box (b .control) (b .words) ≡ after wide (setUpOn wide w) (es ++ schedule cs 0 (length cs / 3)))
-  -- What may sway an answer: beside the lists, only what sways a call. Two arenas that agree in document 01's list get the same answers.
+  -- What may sway an answer: beside the lists, only what sways a call. Two arenas that agree in document 01's list get the same answers
+  -- (and, by `leaves` and `Swayed`, the same record, and go on agreeing in the list).
   pub same-answers : (c : Control) (w v cs xs : List ℕ) (h : Heap) → Holds wide c w h → length v ≡ length w
       → ((i : ℕ) → Governed h i → getD v i 0 ≡ getD w i 0)
       → (batchA wide c v cs xs .refusal ≡ batchA wide c w cs xs .refusal) ×
