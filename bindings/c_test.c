@@ -51,6 +51,24 @@ int main(void) {
     check_number("short out", nuka_malloc(rec, NUKA_RECORD_WORDS, arena, 128, out, 1, 1), NUKA_NOT_SOUND);
     check_number("unchanged", memcmp(before, arena, sizeof arena) != 0, 0);
 
+    uint64_t calls[] = {NUKA_MALLOC, 24, 77, NUKA_FREE, 16, 77, 4, 0, 0, NUKA_REALLOC, 704, 40, NUKA_FREE, 720, 0,
+                        NUKA_MEMALIGN, 64, 1};
+    uint64_t answers[13], one[NUKA_RECORD_WORDS];
+    memset(answers, 255, sizeof answers);
+    memcpy(one, rec, sizeof rec);
+    check("batch, odd list", nuka_batch(LENT, calls, 17, answers, 13), NUKA_LISTS, 0);
+    check("batch, few answers", nuka_batch(LENT, calls, 18, answers, 11), NUKA_LISTS, 0);
+    check("batch, not sound", nuka_batch(rec, NUKA_RECORD_WORDS, arena, 126, out, NUKA_OUT_WORDS, calls, 17, answers, 13),
+          NUKA_NOT_SOUND, 0);
+    check("batch, word count", nuka_batch(rec, NUKA_RECORD_WORDS, arena, 127, out, NUKA_OUT_WORDS, calls, 17, answers, 13),
+          NUKA_WORD_COUNT, 0);
+    check_number("batch, unchanged", memcmp(before, arena, sizeof arena) || memcmp(one, rec, sizeof rec), 0);
+    check_number("batch, unanswered", answers[0], NUKA_NONE);
+    check("batch", nuka_batch(LENT, calls, 18, answers, 13), NUKA_OK, 6);
+    uint64_t expected[13] = {0, 16, 0, 0, NUKA_UNKNOWN, 0, 0, 704, NUKA_NOT_LIVE, 0, 0, 832, NUKA_NONE};
+    check_number("batch, answers", memcmp(answers, expected, sizeof answers) != 0, 0);
+    check("free 832", nuka_free(LENT, 832), NUKA_OK, 0);
+
     memset(rec, 0x5a, sizeof rec);
     check("rebuild refused", nuka_rebuild(LENT, 16), NUKA_WORD_COUNT, 0);
     check_number("the empty record", rec[4], NUKA_NONE);

@@ -32,7 +32,9 @@ enum nuka_refusal {
     NUKA_ALIGNMENT = 3,  /* memalign: the alignment is none of 32, 64, .. 4,096 */
     NUKA_TOO_MANY = 4,   /* more bytes than the arena has */
     NUKA_NOT_LIVE = 5,   /* no live block starts at the offset */
-    NUKA_NO_ROOM = 6     /* nothing that is free is large enough */
+    NUKA_NO_ROOM = 6,    /* nothing that is free is large enough */
+    NUKA_LISTS = 8,      /* batch: the calls are no multiple of three words, or the answers have too few */
+    NUKA_UNKNOWN = 9     /* in a batch's answers: a call of an unknown kind */
 };
 
 /* Makes a fresh heap of the whole arena: writes the record and two words of the arena. Knows only refusal 1, and then
@@ -69,6 +71,17 @@ uint64_t nuka_memalign(uint64_t *rec, size_t rec_words, uint64_t *arena, size_t 
  * Changes nothing. Refusals 1, 2, 5. */
 uint64_t nuka_usable(const uint64_t *rec, size_t rec_words, const uint64_t *arena, size_t words, uint64_t *out,
                      size_t out_words, uint64_t offset);
+
+/* The kinds of a batch's calls. */
+enum nuka_kind { NUKA_MALLOC = 0, NUKA_FREE = 1, NUKA_REALLOC = 2, NUKA_MEMALIGN = 3 };
+
+/* One check for a whole list of calls, which are then made one after the other: answers, record and arena are those of
+ * the same calls made one at a time. A call is three words: its kind, then the numbers of the call of that name, a lone one
+ * first; a number that a kind doesn't use is ignored. An answer is two words: the refusal's number, and the offset of a
+ * granted block, else 0. An unknown kind is answered with 9 and the batch goes on. Words behind the last answer stay. The
+ * value is the number of answers. The lists overlap nothing. Refusals of the whole: 1, 2, 8; then nothing is answered. */
+uint64_t nuka_batch(uint64_t *rec, size_t rec_words, uint64_t *arena, size_t words, uint64_t *out, size_t out_words,
+                    const uint64_t *calls, size_t call_words, uint64_t *answers, size_t answer_words);
 
 /* 0 when record and arena are sound, else 1 or 2: the refusal that every call would give. Changes nothing. */
 uint64_t nuka_sound(const uint64_t *rec, size_t rec_words, const uint64_t *arena, size_t words);

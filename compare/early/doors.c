@@ -13,6 +13,7 @@ number give(struct slice *, struct slice *, struct slice *, number) __asm__("abi
 number resize(struct slice *, struct slice *, struct slice *, number, number) __asm__("abi::nuka_realloc");
 number align(struct slice *, struct slice *, struct slice *, number, number) __asm__("abi::nuka_memalign");
 number usable(struct slice *, struct slice *, struct slice *, number) __asm__("abi::nuka_usable");
+number batch(struct slice *, struct slice *, struct slice *, struct slice *, struct slice *) __asm__("abi::nuka_batch");
 number sound(struct slice *, struct slice *) __asm__("abi::nuka_sound");
 
 #define LENT number *rec, number rec_words, number *arena, number words, number *out, number out_words
@@ -51,6 +52,11 @@ number nuka_memalign(LENT, number alignment, number bytes) {
 number nuka_usable(LENT, number offset) {
     SLICES;
     return usable(&r, &a, &o, offset);
+}
+
+number nuka_batch(LENT, const number *calls, number call_words, number *answers, number answer_words) {
+    SLICES, c = {calls, call_words}, n = {answers, answer_words};
+    return batch(&r, &a, &o, &c, &n);
 }
 
 number nuka_sound(const number *rec, number rec_words, const number *arena, number words) {

@@ -1,4 +1,5 @@
 //! Records and arenas in which something was changed: the library's check against the reading of document 01.
+use crate::batch;
 use crate::history::Rng;
 use crate::library::{Library, Ours, RECORD_WORDS};
 use crate::oracle::{NONE, ROOT};
@@ -86,11 +87,12 @@ pub fn judge(lib: &dyn Library, state: &Ours) -> Result<Found, String> {
     after.clone_from(state);
     let (answer, _) = rebuilt::rebuild(lib, &mut after, 0)?;
     after.clone_from(state);
+    let calls = 10 + batch::judge(lib, state, sound, &asks)?;
     odd_count(lib, &mut after)?;
     Ok(Found {
         sound,
         rebuilt: answer.number == 0,
-        calls: 10,
+        calls,
     })
 }
 

@@ -23,6 +23,8 @@ pub struct Figures {
     /// by number
     refusals: [u64; 7],
     writes: u64,
+    batches: u64,
+    batch_calls: u64,
     pairs: u64,
     sound_pairs: u64,
     rebuilt_pairs: u64,
@@ -36,8 +38,9 @@ impl Figures {
         self.sizes.insert(case.words);
     }
 
-    pub fn wrote(&mut self) {
-        self.writes += 1;
+    /// A step that is no call.
+    pub fn took(&mut self, step: Step) {
+        self.writes += u64::from(matches!(step, Step::Write(..) | Step::Fill(..)));
     }
 
     /// A call and its answer.
@@ -50,6 +53,11 @@ impl Figures {
             Step::Ask(ask) => ask,
             Step::Rebuild(_) => {
                 self.rebuilds += 1;
+                return;
+            }
+            Step::Batch(_) => {
+                self.batches += 1;
+                self.batch_calls += answer.value;
                 return;
             }
             _ => return,
@@ -104,6 +112,8 @@ impl fmt::Display for Figures {
             row(&format!("refusal {number}"), self.refusals[number])?;
         }
         row("owners' writes", self.writes)?;
+        row("batches", self.batches)?;
+        row("- calls in them", self.batch_calls)?;
         row("damaged and made-up pairs", self.pairs)?;
         row("- of these sound", self.sound_pairs)?;
         row("- of these rebuilt from their words", self.rebuilt_pairs)?;

@@ -1,6 +1,8 @@
 //! The Rust crate dlmalloc 0.2.14 as an oracle: what it answers on one fixed arena, in offsets, and our library beside it.
 
 #[cfg(crate_there)]
+pub mod batch;
+#[cfg(crate_there)]
 pub mod case;
 #[cfg(crate_there)]
 pub mod damage;
@@ -50,6 +52,8 @@ pub mod speed;
 pub mod steps;
 #[cfg(crate_there)]
 pub mod table;
+#[cfg(all(crate_there, library_there))]
+pub mod traces;
 #[cfg(crate_there)]
 pub mod whole;
 

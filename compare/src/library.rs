@@ -12,6 +12,15 @@ pub trait Library {
     fn setup(&self, rec: &mut [u64], words: &mut [u64], out: &mut [u64]) -> u64;
     fn ask(&self, ask: Ask, rec: &mut [u64], words: &mut [u64], out: &mut [u64]) -> u64;
     fn rebuild(&self, rec: &mut [u64], words: &mut [u64], out: &mut [u64], start: u64) -> u64;
+
+    fn batch(
+        &self,
+        rec: &mut [u64],
+        words: &mut [u64],
+        out: &mut [u64],
+        calls: &[u64],
+        answers: &mut [u64],
+    ) -> u64;
     fn sound(&self, rec: &[u64], words: &[u64]) -> u64;
 }
 
@@ -37,6 +46,17 @@ impl Library for Linked {
 
     fn rebuild(&self, rec: &mut [u64], words: &mut [u64], out: &mut [u64], start: u64) -> u64 {
         crate::raw::rebuild(rec, words, out, start)
+    }
+
+    fn batch(
+        &self,
+        rec: &mut [u64],
+        words: &mut [u64],
+        out: &mut [u64],
+        calls: &[u64],
+        answers: &mut [u64],
+    ) -> u64 {
+        crate::raw::batch(rec, words, out, calls, answers)
     }
 
     fn sound(&self, rec: &[u64], words: &[u64]) -> u64 {

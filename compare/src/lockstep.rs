@@ -96,11 +96,20 @@ fn history(lib: &dyn Library, setting: Setting, figures: &mut Figures) -> Result
     };
     maker.knows(pair.blocks());
     figures.start(&case);
+    // how many calls of a batch are to come
+    let mut batched = 0;
     for _ in 0..setting.calls {
+        if batched == 0 && rng.chance(3) {
+            batched = 1 + rng.below(40);
+            take(&mut pair, &mut case, figures, Step::Mark)?;
+        }
         let call = maker.next(&pair.heap);
         let granted = take(&mut pair, &mut case, figures, Step::Ask(call.into()))?;
         maker.settle(call, granted.filter(|_| !matches!(call, Call::Free(_))));
-        if let Some(block) = granted {
+        if let Some(old) = left(call, granted).filter(|_| rng.chance(25)) {
+            take(&mut pair, &mut case, figures, Step::Ask(Ask::Free(old)))?;
+        }
+        if let Some(block) = granted.filter(|_| batched == 0) {
             for step in probes::owner(&mut rng, &pair, block) {
                 take(&mut pair, &mut case, figures, step)?;
             }
@@ -113,11 +122,24 @@ fn history(lib: &dyn Library, setting: Setting, figures: &mut Figures) -> Result
         if setting.seed % 4 < 2 && rng.chance(40) {
             take(&mut pair, &mut case, figures, probes::rebuild(&mut rng))?;
         }
+        if batched == 1 {
+            take(&mut pair, &mut case, figures, Step::Batch(rng.draw()))?;
+        }
+        batched = batched.saturating_sub(1);
         if rng.chance(4) {
             damaged(lib, &pair, &mut case, &mut rng, figures)?;
         }
     }
     give_all_back(&mut pair, &mut case, &mut rng, figures)
+}
+
+/// The place that a call's block has just left: to free it once more is refused with 5.
+fn left(call: Call, granted: Option<u64>) -> Option<u64> {
+    match call {
+        Call::Free(old) => Some(old),
+        Call::Realloc(old, _) if granted.is_some_and(|now| now != old) => Some(old),
+        _ => None,
+    }
 }
 
 /// Takes a step and counts it; gives the block that a call granted.
@@ -131,7 +153,7 @@ fn take(
     match pair.step(step) {
         Err(_) => Err(Box::new(case.clone())),
         Ok(None) => {
-            figures.wrote();
+            figures.took(step);
             Ok(None)
         }
         Ok(Some(answer)) => {

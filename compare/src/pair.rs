@@ -1,4 +1,5 @@
 //! Our library and the crate on the same arena, step by step.
+use crate::batch::Run;
 use crate::lent;
 use crate::library::{fresh_record, Answer, Library, Ours};
 use crate::look;
@@ -14,6 +15,8 @@ pub struct Pair<'a> {
     /// by offset / 16: a block that was granted and not since given back or moved
     live: Vec<bool>,
     blocks: usize,
+    /// the calls since a mark
+    run: Option<Run>,
 }
 
 impl<'a> Pair<'a> {
@@ -45,6 +48,7 @@ impl<'a> Pair<'a> {
             ours,
             live,
             blocks,
+            run: None,
         };
         look::differs(&pair.heap, &pair.ours, &pair.live)?;
         Ok(pair)
@@ -64,6 +68,16 @@ impl<'a> Pair<'a> {
             Step::AskLent(..) | Step::RebuildLent(_) | Step::SetUp(_) | Step::Sound(_) => {
                 lent::refused(self.lib, &self.ours, step).map(Some)
             }
+            Step::Mark => {
+                self.run = Some(Run::from(&self.ours));
+                Ok(None)
+            }
+            Step::Batch(seed) => match self.run.take() {
+                Some(run) => run
+                    .compare(self.lib, &self.ours, seed)
+                    .map(|calls| Some(Answer::granted(calls))),
+                None => Ok(None),
+            },
             Step::Write(k, value) => {
                 if self.owned(k) {
                     self.write(k, value);
@@ -80,6 +94,7 @@ impl<'a> Pair<'a> {
     }
 
     fn write(&mut self, k: u64, value: u64) {
+        self.run = None;
         self.heap.set_word(k, value);
         self.ours.words[k as usize] = value;
     }
@@ -166,6 +181,9 @@ impl<'a> Pair<'a> {
             return Err(format!("{ask}: {answer}, but record or arena changed"));
         }
         self.settle(ask, answer);
+        if let Some(run) = &mut self.run {
+            run.add(ask, answer);
+        }
         look::differs(&self.heap, &self.ours, &self.live)
             .map_err(|what| format!("after {ask}: {answer}, {what}"))?;
         self.fresh_at_last(Step::Ask(ask))?;

@@ -35,6 +35,10 @@ pub enum Step {
     SetUp(Lent),
     /// the check with what doesn't fit
     Sound(Lent),
+    /// a batch begins here
+    Mark,
+    /// the calls since the mark, as one batch; nothing where an owner wrote since, or nothing was marked
+    Batch(u64),
     /// the owner of a word of the arena writes it; nothing where it has none
     Write(u64, u64),
     /// the owner of a block fills it with [`word`]s of a seed; nothing where there is no such block
@@ -50,6 +54,7 @@ impl Step {
             Step::Fill(block, seed) => Step::Fill(other(block), seed),
             Step::Rebuild(_) | Step::RebuildLent(_) => self,
             Step::SetUp(_) | Step::Sound(_) | Step::Write(..) => self,
+            Step::Mark | Step::Batch(_) => self,
         }
     }
 }
@@ -131,6 +136,8 @@ impl fmt::Display for Step {
             Step::RebuildLent(lent) => write!(f, "rebuild, {lent}"),
             Step::SetUp(lent) => write!(f, "set-up, {lent}"),
             Step::Sound(lent) => write!(f, "the check, {lent}"),
+            Step::Mark => write!(f, "a batch begins"),
+            Step::Batch(seed) => write!(f, "the batch, seed {seed}"),
             Step::Write(k, value) => write!(f, "the owner of word {k} writes {value}"),
             Step::Fill(block, seed) => {
                 write!(f, "the owner of block {block} fills it, seed {seed}")

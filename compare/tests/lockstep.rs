@@ -39,6 +39,17 @@ impl Library for Wrong {
         Linked.rebuild(rec, words, out, start)
     }
 
+    fn batch(
+        &self,
+        rec: &mut [u64],
+        words: &mut [u64],
+        out: &mut [u64],
+        calls: &[u64],
+        answers: &mut [u64],
+    ) -> u64 {
+        Linked.batch(rec, words, out, calls, answers)
+    }
+
     fn sound(&self, rec: &[u64], words: &[u64]) -> u64 {
         Linked.sound(rec, words)
     }
@@ -137,6 +148,17 @@ impl Library for Blind {
         Linked.rebuild(rec, words, out, start)
     }
 
+    fn batch(
+        &self,
+        rec: &mut [u64],
+        words: &mut [u64],
+        out: &mut [u64],
+        calls: &[u64],
+        answers: &mut [u64],
+    ) -> u64 {
+        Linked.batch(rec, words, out, calls, answers)
+    }
+
     fn sound(&self, rec: &[u64], words: &[u64]) -> u64 {
         // the spare chunk's size is taken to be true
         let mut rec = rec.to_vec();
@@ -179,6 +201,17 @@ impl Library for WrongRebuild {
             return out[0];
         }
         returned
+    }
+
+    fn batch(
+        &self,
+        rec: &mut [u64],
+        words: &mut [u64],
+        out: &mut [u64],
+        calls: &[u64],
+        answers: &mut [u64],
+    ) -> u64 {
+        Linked.batch(rec, words, out, calls, answers)
     }
 
     fn sound(&self, rec: &[u64], words: &[u64]) -> u64 {
@@ -232,4 +265,88 @@ fn a_refused_rebuild_that_writes() {
         }
     };
     found(&WrongRebuild { after }, "but not the empty record alone");
+}
+
+type AfterBatch = fn(&[u64], &mut [u64], &mut [u64]);
+
+/// The linked library whose batch is wrong: the calls, `out` and the answers, changed after each batch.
+struct WrongBatch {
+    after: AfterBatch,
+}
+
+impl Library for WrongBatch {
+    fn setup(&self, rec: &mut [u64], words: &mut [u64], out: &mut [u64]) -> u64 {
+        Linked.setup(rec, words, out)
+    }
+
+    fn ask(&self, ask: Ask, rec: &mut [u64], words: &mut [u64], out: &mut [u64]) -> u64 {
+        Linked.ask(ask, rec, words, out)
+    }
+
+    fn rebuild(&self, rec: &mut [u64], words: &mut [u64], out: &mut [u64], start: u64) -> u64 {
+        Linked.rebuild(rec, words, out, start)
+    }
+
+    fn batch(
+        &self,
+        rec: &mut [u64],
+        words: &mut [u64],
+        out: &mut [u64],
+        calls: &[u64],
+        answers: &mut [u64],
+    ) -> u64 {
+        Linked.batch(rec, words, out, calls, answers);
+        (self.after)(calls, out, answers);
+        out[0]
+    }
+
+    fn sound(&self, rec: &[u64], words: &[u64]) -> u64 {
+        Linked.sound(rec, words)
+    }
+}
+
+#[test]
+fn a_batch_that_stops_at_9() {
+    let after: AfterBatch = |_, out, answers| {
+        let lines = answers.chunks_exact(2).take(out[1] as usize);
+        let nine = lines.clone().position(|line| line[0] == 9);
+        out[1] = nine.map_or(out[1], |i| i as u64 + 1);
+    };
+    // which calls a 9 stands between is drawn anew for a shorter batch, so it may stay long
+    found(&WrongBatch { after }, "a batch");
+}
+
+#[test]
+fn a_batch_that_writes_behind_its_answers() {
+    let after: AfterBatch = |_, out, answers| {
+        if let (0, Some(word)) = (out[0], answers.get_mut(2 * out[1] as usize)) {
+            *word = 0;
+        }
+    };
+    found(&WrongBatch { after }, "past the last");
+}
+
+#[test]
+fn a_batch_that_leaves_a_moved_block_live() {
+    let after: AfterBatch = |calls, _, answers| {
+        let calls: Vec<&[u64]> = calls.chunks_exact(3).collect();
+        for (i, call) in calls.iter().enumerate().filter(|(_, call)| call[0] == 1) {
+            let moved = |j: usize| calls[j][..2] == [2, call[1]] && answers[2 * j] == 0;
+            if answers.get(2 * i) == Some(&5) && (0..i).any(moved) {
+                answers[2 * i] = 0;
+            }
+        }
+    };
+    assert!(found(&WrongBatch { after }, "made alone [5, 0]") <= 8);
+}
+
+#[test]
+fn a_batch_that_asks_for_its_lists_first() {
+    let after: AfterBatch = |calls, out, _| {
+        if out[0] == 2 && calls.len() % 3 != 0 {
+            out[0] = 8;
+        }
+    };
+    // how a batch is refused is drawn anew for a shorter one
+    found(&WrongBatch { after }, "refused with 2");
 }

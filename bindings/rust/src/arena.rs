@@ -1,4 +1,5 @@
 //! An arena that owns its words and its record.
+use crate::batch::Batch;
 use crate::raw;
 use crate::refusal::Refusal;
 use std::ops::Range;
@@ -90,6 +91,21 @@ impl Arena {
             alignment,
             bytes,
         );
+        Refusal::or(out)
+    }
+
+    /// One check, then all calls of a batch: the same answers, and the same heap, as by the calls one at a time.
+    pub fn run(&mut self, batch: &Batch) -> Result<Vec<Result<u64, Refusal>>, Refusal> {
+        let mut answers = vec![0; 2 * batch.len()];
+        self.run_words(batch.words(), &mut answers)?;
+        Ok(batch.told(&answers))
+    }
+
+    /// The same on words: three a call (kind 0 to 3 for malloc, free, realloc, memalign, then two numbers), two an answer
+    /// (refusal, offset). Gives the number of answers; an unknown kind is answered with 9.
+    pub fn run_words(&mut self, calls: &[u64], answers: &mut [u64]) -> Result<u64, Refusal> {
+        let mut out = [0; 2];
+        raw::batch(&mut self.record, &mut self.words, &mut out, calls, answers);
         Refusal::or(out)
     }
 

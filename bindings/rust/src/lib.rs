@@ -15,8 +15,10 @@
 //! # Ok::<(), Refusal>(())
 //! ```
 mod arena;
+mod batch;
 mod raw;
 mod refusal;
 
 pub use arena::{Arena, LARGEST, RECORD_WORDS};
+pub use batch::Batch;
 pub use refusal::Refusal;

@@ -67,6 +67,18 @@ mod c {
             out_words: usize,
             offset: u64,
         ) -> u64;
+        pub fn nuka_batch(
+            rec: *mut u64,
+            rec_words: usize,
+            arena: *mut u64,
+            words: usize,
+            out: *mut u64,
+            out_words: usize,
+            calls: *const u64,
+            call_words: usize,
+            answers: *mut u64,
+            answer_words: usize,
+        ) -> u64;
         pub fn nuka_sound(
             rec: *const u64,
             rec_words: usize,
@@ -125,6 +137,18 @@ pub fn memalign(
 pub fn usable(rec: &[u64], arena: &[u64], out: &mut [u64], offset: u64) -> u64 {
     let (r, a, o) = (rec.as_ptr(), arena.as_ptr(), out.as_mut_ptr());
     unsafe { c::nuka_usable(r, rec.len(), a, arena.len(), o, out.len(), offset) }
+}
+
+pub fn batch(
+    rec: &mut [u64],
+    arena: &mut [u64],
+    out: &mut [u64],
+    calls: &[u64],
+    answers: &mut [u64],
+) -> u64 {
+    let (list, count) = (calls.as_ptr(), calls.len());
+    let (told, room) = (answers.as_mut_ptr(), answers.len());
+    call!(nuka_batch, rec, arena, out, list, count, told, room)
 }
 
 pub fn sound(rec: &[u64], arena: &[u64]) -> u64 {

@@ -15,6 +15,8 @@ pub enum Refusal {
     NotLive(u64),
     /// nothing that is free is large enough
     NoRoom,
+    /// a batch whose calls are no multiple of three words, or whose answers have too few
+    Lists,
 }
 
 impl Refusal {
@@ -27,6 +29,7 @@ impl Refusal {
             Refusal::TooManyBytes => 4,
             Refusal::NotLive(_) => 5,
             Refusal::NoRoom => 6,
+            Refusal::Lists => 8,
         }
     }
 
@@ -39,7 +42,8 @@ impl Refusal {
             [4, _] => Err(Refusal::TooManyBytes),
             [5, offset] => Err(Refusal::NotLive(offset)),
             [6, _] => Err(Refusal::NoRoom),
-            // 2; there are no numbers above 6
+            [8, _] => Err(Refusal::Lists),
+            // 2; no call has another
             _ => Err(Refusal::NotSound),
         }
     }
@@ -56,6 +60,7 @@ impl fmt::Display for Refusal {
             Refusal::TooManyBytes => f.write_str("more bytes than the whole arena has"),
             Refusal::NotLive(offset) => write!(f, "no live block starts at offset {offset}"),
             Refusal::NoRoom => f.write_str("no room: nothing that is free is large enough"),
+            Refusal::Lists => f.write_str("a list of calls or for answers of a wrong length"),
         }
     }
 }

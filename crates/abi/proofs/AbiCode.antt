@@ -3,7 +3,7 @@ use mathlib.Core.Bool.{Bool, true, false, _&&_}
 use mathlib.Core.List.{List}
 use mathlib.Core.Logic.{⊎-elim}
 use mathlib.Core.Path.{_≡_, refl, sym, ap, _∙_}
-use Prim.Native.Nat.{ℕ, _+_, _≤_, _<_}
+use Prim.Native.Nat.{ℕ, _+_, _/_, _≤_, _<_}
 use native.Mathlib.Omega.{arith}
 use lib.Dec.{leb, eqb}
 use lib.ListN.{length, getD, set}
@@ -19,7 +19,10 @@ use Rattle.holds.specs.Holds.{Control}
 use Rattle.calls.specs.Record.{reads, image}
 use Rattle.calls.specs.ByValue.{ends, setUpA, rebuildA}
 use Rattle.calls.specs.RecordLaws.{reads-all}
+use Rattle.batch.specs.BatchBytes.{batched, batchM}
+use Rattle.batch.specs.BatchLaws.{set-batch}
 use Rattle.abi.specs.Words.{said, valueOf, outOf, lentOk, copied, oddRecord, tellC, callC, setC, setUpC, rebuildC, soundC}
+use Rattle.abi.specs.Words.{ran, answered, countOut, tellBatch, batchC}
 
 -- ---- what was lent
 
@@ -139,6 +142,45 @@ module _ (r w out : List ℕ) {x : Bool} (e : x ≡ lentOk (length r) (length ou
         → m ≡ image d → n ≡ refusal a → v ≡ copied m → o ≡ outOf out a → said n v w′ o ≡ rebuildC r w out start
     unfolding rebuildC
     rebuild-said t a d w′ c i p v q = said-same w′ p (v ∙ ap copied i) q ∙ ap (setC out) c ∙ sym (rw (sym e ∙ t) refl)
+
+-- ---- the batch
+
+module _ (n calls : ℕ) where
+  pub answered-none : (n ≡ 0 → ⊥) → 0 ≡ answered n calls
+  unfolding answered
+  answered-none f = sym (rw (ne-eqb n 0 f) refl)
+
+  pub answered-all : n ≡ 0 → calls / 3 ≡ answered n calls
+  unfolding answered
+  answered-all q = sym (rw (eq-eqb n 0 q) refl)
+
+  pub count-out : (out : List ℕ) {v : ℕ} → v ≡ answered n calls → set (set out 0 n) 1 v ≡ countOut out n calls
+  unfolding countOut
+  count-out out q = ap (set (set out 0 n) 1) q
+
+module _ (r w out cs xs : List ℕ) {x : Bool} (e : x ≡ lentOk (length r) (length out)) where
+  pub batch-lost : x ≡ false → ran 2 r w out xs ≡ batchC r w out cs xs
+  unfolding batchC
+  batch-lost q = sym (rw (sym e ∙ q) refl)
+
+  module _ (t : x ≡ true) {s : List ℕ} (same : s ≡ r) where
+    first : getD r 7 0 ≡ getD s 7 0
+    first = ap (λ z. getD z 7 0) (sym same)
+
+    pub batch-odd : (a : Answer) {n : ℕ} {o : List ℕ} → (getD s 7 0 ≡ 0 → ⊥) → a ≡ oddRecord (length w) → n ≡ refusal a → o ≡ outOf out a
+        → ran n r w o xs ≡ batchC r w out cs xs
+    unfolding batchC
+    batch-odd a {o = o} f i p q =
+        ap (λ y. ran y r w o xs) (p ∙ ap refusal i) ∙ ap (λ y. ran (refusal (oddRecord (length w))) r w y xs) (q ∙ ap (outOf out) i)
+        ∙ sym (rw (sym e ∙ t, ne-eqb (getD r 7 0) 0 (λ z. f (sym first ∙ z))) refl)
+
+    pub batch-ran : (n : ℕ) (r′ w′ xs′ : List ℕ) {o v : List ℕ} → getD s 7 0 ≡ 0 → batched n r′ w′ xs′ ≡ batchM wide s w cs xs
+        → v ≡ reads (set r′ 7 0) 0 72 → o ≡ countOut out n (length cs) → ran n v w′ o xs′ ≡ batchC r w out cs xs
+    unfolding batchC copied
+    batch-ran n r′ w′ xs′ {o = o} z b v q =
+        ap (λ y. ran n y w′ o xs′) v ∙ ap (λ y. ran n (copied r′) w′ y xs′) q
+        ∙ ap (tellBatch out (length cs)) (b ∙ ap (λ y. batchM wide y w cs xs) same ∙ set-batch wide r w cs xs (lent-72 (length r) (length out) e t))
+        ∙ sym (rw (sym e ∙ t, eq-eqb (getD r 7 0) 0 (first ∙ z)) refl)
 
 -- ---- the check
 

@@ -2,7 +2,7 @@
 -- all inputs. A record of another length than 72 or an answer shorter than 2 is refused with 2 and nothing is written. Assumes nothing.
 use mathlib.Core.Bool.{Bool, _&&_}
 use mathlib.Core.List.{List}
-use Prim.Native.Nat.{ℕ}
+use Prim.Native.Nat.{ℕ, _/_}
 use lib.Dec.{eqb, leb}
 use lib.ListN.{length, getD, set}
 use Rattle.words.specs.Logic.{pick}
@@ -12,6 +12,7 @@ use Rattle.sound.specs.SoundBytes.{soundB}
 use Rattle.calls.specs.CallBytes.{Told, refusal, callB}
 use Rattle.calls.specs.Record.{reads, image}
 use Rattle.calls.specs.ByValue.{Ends, setUpA, rebuildA}
+use Rattle.batch.specs.BatchBytes.{Batched, batchB}
 
 -- the number returned, the record's words, the arena's, the answer's
 pub record Said : Type 0 where
@@ -77,3 +78,33 @@ rebuildC r w out start = pick (lentOk (length r) (length out)) (setC out (rebuil
 -- 0 for a sound pair, else the number of the refusal that every call would give
 unfoldable pub soundC : List ℕ → List ℕ → ℕ
 soundC r w = pick (eqb (length r) 72) (pick (allowedCount (length w)) (pick (eqb (getD r 7 0) 0 && soundB wide r w) 0 2) 1) 2
+
+-- ---- the batch: the list of calls is read, that for the answers written; the value is the number of answers
+
+pub record Ran : Type 0 where
+  pub number : ℕ
+  pub image : List ℕ
+  pub words : List ℕ
+  pub out : List ℕ
+  pub answers : List ℕ
+
+abbrev pub ran : ℕ → List ℕ → List ℕ → List ℕ → List ℕ → Ran
+ran n r w o xs = record { number = n; image = r; words = w; out = o; answers = xs }
+
+-- none where the whole is refused
+unfoldable pub answered : ℕ → ℕ → ℕ
+answered n calls = pick (eqb n 0) (calls / 3) 0
+
+unfoldable pub countOut : List ℕ → ℕ → ℕ → List ℕ
+countOut out n calls = set (set out 0 n) 1 (answered n calls)
+
+abbrev pub tellBatch : List ℕ → ℕ → Batched → Ran
+tellBatch out calls b = ran (b .refusal) (copied (b .image)) (b .words) (countOut out (b .refusal) calls) (b .answers)
+
+abbrev pub oddBatch : List ℕ → List ℕ → List ℕ → List ℕ → Answer → Ran
+oddBatch r w out xs a = ran (refusal a) r w (outOf out a) xs
+
+unfoldable pub batchC : List ℕ → List ℕ → List ℕ → List ℕ → List ℕ → Ran
+batchC r w out cs xs =
+    pick (lentOk (length r) (length out))
+    (pick (eqb (getD r 7 0) 0) (tellBatch out (length cs) (batchB wide r w cs xs)) (oddBatch r w out xs (oddRecord (length w)))) (ran 2 r w out xs)

@@ -5,7 +5,7 @@ ghost use lib.ListN.{length};
 ghost use Rattle.rules.specs.Calls as rules;
 ghost use Rattle.calls.specs.CallBytes.{refusal};
 ghost use Rattle.arena.specs.Answers.{reasonOf, answerOf};
-ghost use Rattle.abi.specs.Words.{valueOf, refusedValue, outOf, oddRecord};
+ghost use Rattle.abi.specs.Words.{valueOf, refusedValue, outOf, oddRecord, answered, countOut};
 use arena::answers::Answer;
 use arena::answers::Reason;
 use sound::words_ok;
@@ -79,4 +79,23 @@ pub fn odd_record(w: &[u64]) -> Answer
         return Answer::Refused(Reason::Unsound);
     }
     Answer::Refused(Reason::BadCount)
+}
+
+// How many calls of a batch were answered: none where the whole was refused with n.
+fn answered_of(n: u64, calls: usize) -> u64
+    ensures { λ x. ⌜ x ≡ answered n calls ⌝ }
+{
+    if n != 0 {
+        return 0;
+    }
+    (calls / 3) as u64
+}
+
+pub fn tell_count(out: &mut [u64], n: u64, calls: usize)
+    requires { ⌜ 2 ≤ length (now out) ⌝ }
+    ensures { λ x. ⌜ now (out .exit) ≡ countOut (now (out .entry)) n calls ⌝ }
+{
+    let v = answered_of(n, calls);
+    out[0] = n;
+    out[1] = v;
 }

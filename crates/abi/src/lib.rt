@@ -9,12 +9,14 @@ ghost use Rattle.rules.specs.Calls.{Malloc, Free, Realloc, Memalign, Usable};
 ghost use Rattle.calls.specs.Record.{reads};
 ghost use Rattle.arena.specs.Answers.{answerOf};
 ghost use Rattle.calls.specs.CallBytes.{refusal};
-ghost use Rattle.abi.specs.Words.{lentOk, copied, said, outOf, callC, setUpC, rebuildC, soundC};
+ghost use Rattle.abi.specs.Words.{lentOk, copied, said, outOf, callC, setUpC, rebuildC, soundC, ran, batchC};
 use crate::answer::odd_record;
 use crate::answer::tell;
+use crate::answer::tell_count;
 use arena::answers::Answer;
 use arena::control::image_of;
 use arena::on_image;
+use batch::batch_on_image;
 use chunk::access::BlockOff;
 use sound::words_ok;
 
@@ -184,6 +186,32 @@ pub extern "C" fn nuka_usable(rec: &[u64], w: &[u64], out: &mut [u64], offset: u
         return tell(out, odd_record(w));
     }
     tell(out, on_image::usable(&r, w, BlockOff(offset)))
+}
+
+// One check for a whole list of calls, three words each; the answers are two words each.
+#[no_mangle]
+pub extern "C" fn nuka_batch(
+    rec: &mut [u64],
+    w: &mut [u64],
+    out: &mut [u64],
+    calls: &[u64],
+    answers: &mut [u64],
+) -> u64
+    ensures { λ x. ⌜ ran x (now (rec .exit)) (now (w .exit)) (now (out .exit)) (now (answers .exit))
+        ≡ batchC (now (rec .entry)) (now (w .entry)) (now (out .entry)) (now (calls .entry)) (now (answers .entry)) ⌝ }
+{
+    if !lent_ok(rec.len(), out.len()) {
+        return 2;
+    }
+    let mut r = image_in(rec);
+    if r[SPARE] != 0 {
+        return tell(out, odd_record(w));
+    }
+    let n = batch_on_image(&mut r, w, calls, answers);
+    r[SPARE] = 0;
+    copy_out(&r, rec);
+    tell_count(out, n, calls.len());
+    n
 }
 
 // 0 for a sound pair, else the number of the refusal that every call would give.

@@ -2,16 +2,12 @@
 use mathlib.Core.Bool.{Bool, true, false}
 use mathlib.Core.List.{List}
 use mathlib.Core.Path.{_≡_, refl, sym, ap, _∙_}
-use mathlib.Core.Logic.{_⊎_, inl, inr, ⊎-elim}
 use Prim.Native.Nat.{ℕ, _+_, _*_, _%_, _^_}
-use native.Mathlib.Omega.{arith}
-use native.Mathlib.Nat.{mod-eq-of-lt}
 use lib.Dec.{ltb}
 use lib.ListN.{length, getD}
-use borrow.Author.Tests.{ltb-false, eq-eqb, ne-eqb, not-true, not-false}
+use borrow.Author.Tests.{eq-eqb, ne-eqb, not-true, not-false}
 use Rattle.words.specs.Edition.{wide, noLink}
 use Rattle.index.specs.Sizes.{need}
-use Rattle.index.specs.SizesLaws.{need-le}
 use Rattle.rules.specs.Calls.{Call, Malloc, Free, Realloc, Memalign, Usable, Answer, granted, done, bytes, refused, bad-count, unsound, bad-alignment, too-many, not-live, no-room, isIn, alignments}
 use Rattle.chunk.specs.Bytes.{wrap, less}
 use Rattle.malloc.specs.MallocBytes.{Reply, reply, mallocB}
@@ -19,7 +15,7 @@ use Rattle.free.specs.FreeBytes.{freeB}
 use Rattle.realloc.specs.ReallocBytes.{reallocB}
 use Rattle.memalign.specs.MemalignBytes.{memalignB}
 use Rattle.sound.specs.SoundBytes.{countOk, soundB, liveB, usableB}
-use Rattle.calls.specs.Counts.{count-allowed, count-range}
+use Rattle.calls.specs.Counts.{count-allowed, plain-need}
 use Rattle.calls.specs.CallBytes.{Told, told, chunkAt, grantOf, grantOrNo, ifLive, ifFew, freed, coreCall, callB}
 
 module _ (r w : List ℕ) (k : Call) {x : Bool} (e : x ≡ countOk (length w)) where
@@ -35,13 +31,6 @@ module _ (r w : List ℕ) (k : Call) {x : Bool} (e : x ≡ countOk (length w)) w
     core : y ≡ true → callB wide r w k ≡ coreCall wide r w k
     unfolding callB
     core q = rw (sym (count-allowed (length w)) ∙ sym e ∙ t, sym f ∙ q) refl
-
-pub count-yes : (n : ℕ) {x : Bool} → x ≡ countOk n → x ≡ true → countOk n ≡ true
-count-yes n e q = sym e ∙ q
-
--- a request that the arena can hold needs a size that does not wrap
-plain-need : (n m : ℕ) → countOk m ≡ true → ltb (8 * m) n ≡ false → need 8 n % 2 ^ 64 ≡ need 8 n
-plain-need n m t q = mod-eq-of-lt (omega (arith, need-le 8 n (omega arith), ltb-false (8 * m) n q, count-range m t .1))
 
 module _ (r w : List ℕ) {x y : Bool} (e : x ≡ countOk (length w)) (t : x ≡ true) (f : y ≡ soundB wide r w) (s : y ≡ true) where
   is-core : (k : Call) → coreCall wide r w k ≡ callB wide r w k
@@ -126,35 +115,12 @@ module _ (r w : List ℕ) {x y : Bool} (e : x ≡ countOk (length w)) (t : x ≡
       realloc-told {m = m} q v i j u =
           granting (reallocB wide r w (chunkAt wide off)) n (sym g ∙ k) i (j ∙ ap (λ y. reallocB wide r w y m) v) u ∙ ap (ifFew wide r w n) (sym (live off moved (sym h ∙ q))) ∙ is-core (Realloc off n)
 
--- ---- rows 3 and 6
+-- ---- row 6
 
 pub grant-none : (p : ℕ) → p ≡ noLink wide → refused no-room ≡ grantOf wide p
 grant-none p q = sym (rw (eq-eqb p (noLink wide) q) refl)
 
 pub grant-some : (p : ℕ) {b : ℕ} → (p ≡ noLink wide → ⊥) → b ≡ wrap wide (p + 16) → granted b ≡ grantOf wide p
 grant-some p n q = ap granted q ∙ sym (rw (ne-eqb p (noLink wide) n) refl)
-
-abbrev pub Among : ℕ → Type 0
-Among x = (x ≡ 32) ⊎ (x ≡ 64) ⊎ (x ≡ 128) ⊎ (x ≡ 256) ⊎ (x ≡ 512) ⊎ (x ≡ 1024) ⊎ (x ≡ 2048) ⊎ (x ≡ 4096)
-
-is-in : (x y : ℕ) → isIn y (alignments wide) ≡ true → x ≡ y → true ≡ isIn x (alignments wide)
-is-in x y f q = sym (ap (λ z. isIn z (alignments wide)) q ∙ f)
-
-pub aligned-yes : (x : ℕ) → Among x → true ≡ isIn x (alignments wide)
-aligned-yes x =
-    ⊎-elim (is-in x 32 refl) (⊎-elim (is-in x 64 refl) (⊎-elim (is-in x 128 refl) (⊎-elim (is-in x 256 refl) (⊎-elim (is-in x 512 refl) (⊎-elim (is-in x 1024 refl) (⊎-elim (is-in x 2048 refl) (is-in x 4096 refl)))))))
-
-pub aligned-no : (x : ℕ) → (Among x → ⊥) → false ≡ isIn x (alignments wide)
-aligned-no x f =
-    sym (rw (
-      ne-eqb x 32 (λ q. f (inl q)),
-      ne-eqb x 64 (λ q. f (inr (inl q))),
-      ne-eqb x 128 (λ q. f (inr (inr (inl q)))),
-      ne-eqb x 256 (λ q. f (inr (inr (inr (inl q))))),
-      ne-eqb x 512 (λ q. f (inr (inr (inr (inr (inl q)))))),
-      ne-eqb x 1024 (λ q. f (inr (inr (inr (inr (inr (inl q))))))),
-      ne-eqb x 2048 (λ q. f (inr (inr (inr (inr (inr (inr (inl q)))))))),
-      ne-eqb x 4096 (λ q. f (inr (inr (inr (inr (inr (inr (inr q)))))))),
-    ) refl)
 
 pub ruleset tests = (not-true, not-false)

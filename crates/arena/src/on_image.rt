@@ -1,11 +1,7 @@
 // The calls on the record's 72 words: the check first, then the refusals in document 01's order, then the core. A refused call writes nothing.
 ghost use mathlib.Core.Path.{_≡_};
-ghost use mathlib.Core.Bool.{true};
-ghost use Prim.Native.Nat.{_*_};
-ghost use lib.Dec.{ltb};
-ghost use Rattle.words.specs.Edition.{W, wide};
-ghost use Rattle.rules.specs.Calls.{Malloc, Free, Realloc, Memalign, Usable, isIn, alignments};
-ghost use Rattle.sound.specs.SoundBytes.{countOk};
+ghost use Rattle.words.specs.Edition.{wide};
+ghost use Rattle.rules.specs.Calls.{Malloc, Free, Realloc, Memalign, Usable};
 ghost use Rattle.calls.specs.CallBytes.{told, grantOf, callB};
 ghost use Rattle.arena.specs.Answers.{answerOf};
 use crate::answers::Answer;
@@ -21,6 +17,8 @@ use index::sizes::request2size;
 use malloc::malloc_chunk;
 use memalign::memalign_chunk;
 use realloc::realloc_chunk;
+use rows::alignment_ok;
+use rows::too_many;
 use sound::live_block;
 use sound::sound;
 use sound::usable_size;
@@ -34,24 +32,6 @@ fn granted(p: ChunkOff) -> Answer
         return Answer::Refused(Reason::NoRoom);
     }
     Answer::Granted(to_mem(p))
-}
-
-// Row 4: more bytes than the arena has.
-fn too_many(words: usize, bytes: u64) -> bool
-    requires { ⌜ countOk words ≡ true ⌝ }
-    ensures { λ x. ⌜ x ≡ ltb (W wide * words) bytes ⌝ }
-{
-    bytes > 8 * (words as u64)
-}
-
-// Row 3: 32, 64, .. 4,096.
-fn alignment_ok(alignment: u64) -> bool
-    ensures { λ x. ⌜ x ≡ isIn alignment (alignments wide) ⌝ }
-{
-    match alignment {
-        32 | 64 | 128 | 256 | 512 | 1024 | 2048 | 4096 => true,
-        _ => false,
-    }
 }
 
 pub fn malloc(r: &mut [u64; 72], w: &mut [u64], bytes: u64) -> Answer

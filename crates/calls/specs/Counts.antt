@@ -1,10 +1,14 @@
 -- THE NUMBER OF WORDS: the calls' first row and the check ask the same. Assumes nothing.
 use mathlib.Core.Bool.{Bool, true, false, _&&_}
 use mathlib.Core.Path.{_≡_, refl}
-use Prim.Native.Nat.{ℕ, _%_, _≤_}
-use lib.Dec.{leb, eqb}
-use borrow.Author.Tests.{leb-true, eqb-true}
+use Prim.Native.Nat.{ℕ, _*_, _%_, _^_, _≤_}
+use native.Mathlib.Omega.{arith}
+use native.Mathlib.Nat.{mod-eq-of-lt}
+use lib.Dec.{leb, ltb, eqb}
+use borrow.Author.Tests.{leb-true, ltb-false, eqb-true}
 use Rattle.words.specs.Logic.{false-true}
+use Rattle.index.specs.Sizes.{need}
+use Rattle.index.specs.SizesLaws.{need-le}
 use Rattle.rules.specs.Calls.{allowedCount}
 use Rattle.sound.specs.SoundBytes.{countOk}
 
@@ -33,3 +37,7 @@ three false b false q = absurd (false-true q)
 pub count-range : (n : ℕ) → countOk n ≡ true → (16 ≤ n) × (n ≤ 8192) × (n % 2 ≡ 0)
 unfolding countOk
 count-range n q = let z = three (leb 16 n) (leb n 8192) (eqb (n % 2) 0) q in (leb-true 16 n (z .0), leb-true n 8192 (z .1), eqb-true (n % 2) 0 (z .2))
+
+-- a request that an arena of k words can hold needs a size that does not wrap
+pub plain-need : (n k : ℕ) → countOk k ≡ true → ltb (8 * k) n ≡ false → need 8 n % 2 ^ 64 ≡ need 8 n
+plain-need n k t q = mod-eq-of-lt (omega (arith, need-le 8 n (omega arith), ltb-false (8 * k) n q, count-range k t .1))

@@ -7,7 +7,7 @@ use mathlib.Core.Logic.{_↔_}
 use mathlib.Core.Path.{_≡_, refl, sym, _∙_, ap, subst}
 use Prim.Native.Nat.{ℕ, zero, suc, _+_, _^_, _≤_, _<_, min}
 use native.Mathlib.Omega.{arith}
-use native.Mathlib.Nat.{mod-eq-of-lt}
+use native.Mathlib.Nat.{mod-eq-of-lt, mod-lt}
 use lib.Dec.{ltb, eqb}
 use borrow.Author.Tests.{eqb-true, eq-eqb, ltb-true, lt-ltb}
 use lib.ListN.{length, getD, drop, replicate, length-take, length-drop}
@@ -104,11 +104,22 @@ unfolding decode
 no-length wide w s = omega (arith, s .1 .long, s .1 .least)
 no-length narrow w s = omega (arith, s .1 .long, s .1 .least)
 
-pub sound-image : (e : Edition) (c : Control) (w : List ℕ) → Sound e (decode (image c)) w ↔ Sound e c w
+-- so what the words hold the record holds
+pub image-near : (e : Edition) (c : Control) (w : List ℕ) (h : Heap) → Near e (decode (image c)) w h [] → Near e c w h []
 unfolding image
-sound-image e c w = by (λ b. Sound e (decode (pick b (wordsOf c) (replicate 72 0))) w ↔ Sound e c w) (fits c)
-    (λ q. let z = decode-words c (fits-is c q) in (subst (λ d. Sound e d w) z, subst (λ d. Sound e d w) (sym z)))
-    (λ q. ((λ s. absurd (no-length e w s)), (λ s. false-true (sym q ∙ fits-yes c (held-fits e c w (s .0) [] (s .1))))))
+image-near e c w h = by (λ b. Near e (decode (pick b (wordsOf c) (replicate 72 0))) w h [] → Near e c w h []) (fits c)
+    (λ q. subst (λ d. Near e d w h []) (decode-words c (fits-is c q))) (λ q n. absurd (no-length e w (h, n)))
+
+pub sound-image : (e : Edition) (c : Control) (w : List ℕ) → Sound e (decode (image c)) w ↔ Sound e c w
+sound-image e c w = (
+  λ s. (s .0, image-near e c w (s .0) (s .1)),
+  λ s. subst (λ d. Sound e d w) (sym (decode-image c (held-fits e c w (s .0) [] (s .1)))) s,
+)
+
+-- numbers read from words fit
+pub numbers-fit : (r : List ℕ) → Fits (numbersOf r)
+unfolding reads
+numbers-fit r = record { heads = refl; roots = refl; small = mod-lt (getD r 0 0) (omega arith); trees = mod-lt (getD r 1 0) (omega arith) }
 
 -- ---- the record of words that hold a heap
 

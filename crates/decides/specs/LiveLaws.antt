@@ -83,12 +83,12 @@ behind-none e pu a (used n ∷ cs) off t l =
 
 -- ---- what the heads say
 
-chunk-size : (e : Edition) (w : List ℕ) (p : ℕ) (pu : Bool) (c : Chunk) → ChunkAt e w p pu c → sizeB e w (enc e p) ≡ enc e (size c)
+pub chunk-size : (e : Edition) (w : List ℕ) (p : ℕ) (pu : Bool) (c : Chunk) → ChunkAt e w p pu c → sizeB e w (enc e p) ≡ enc e (size c)
 chunk-size e w p true (used s) a = size-plain e w p s 3 (omega (arith, a .head)) (a .even) (omega arith)
 chunk-size e w p false (used s) a = size-plain e w p s 2 (omega (arith, a .head)) (a .even) (omega arith)
 chunk-size e w p pu (free s) a = size-plain e w p s 1 (a .head) (a .even) (omega arith)
 
-chunk-use : (e : Edition) (w : List ℕ) (p : ℕ) (pu : Bool) (c : Chunk) → ChunkAt e w p pu c → cinuseB e w (enc e p) ≡ inUse c
+pub chunk-use : (e : Edition) (w : List ℕ) (p : ℕ) (pu : Bool) (c : Chunk) → ChunkAt e w p pu c → cinuseB e w (enc e p) ≡ inUse c
 chunk-use e w p true (used s) a = cinuse-plain e w p s 3 (omega (arith, a .head)) (a .even) (omega arith)
 chunk-use e w p false (used s) a = cinuse-plain e w p s 2 (omega (arith, a .head)) (a .even) (omega arith)
 chunk-use e w p pu (free s) a = cinuse-plain e w p s 1 (a .head) (a .even) (omega arith)

@@ -76,7 +76,7 @@ unfolding hasMark
 in-place e m off h = holds-place e off (and-left _ _ h)
 
 -- the bit of granule g
-abbrev digit : List ℕ → ℕ → ℕ
+abbrev pub digit : List ℕ → ℕ → ℕ
 digit m g = bit (g % 64) (getD m (g / 64) 0)
 
 digit-lt : (m : List ℕ) (g : ℕ) → digit m g < 2
@@ -113,10 +113,10 @@ by-place x = ⊎-elim (λ v. ⊎-elim (λ l. inl (v, l)) (λ l. inr (λ p. omega
 
 -- ---- one number of the set changes
 
-digit-here : (m : List ℕ) (g v : ℕ) → length m ≡ 64 → g < 4096 → digit (set m (g / 64) v) g ≡ bit (g % 64) v
+pub digit-here : (m : List ℕ) (g v : ℕ) → length m ≡ 64 → g < 4096 → digit (set m (g / 64) v) g ≡ bit (g % 64) v
 digit-here m g v l b = ap (bit (g % 64)) (getD-set-same m (g / 64) v 0 (omega arith))
 
-digit-other : (m : List ℕ) (g v j : ℕ) → length m ≡ 64 → g < 4096 → (g ≡ j → ⊥)
+pub digit-other : (m : List ℕ) (g v j : ℕ) → length m ≡ 64 → g < 4096 → (g ≡ j → ⊥)
     → ((i : ℕ) → i < 64 → (g % 64 ≡ i → ⊥) → bit i v ≡ bit i (getD m (g / 64) 0)) → digit (set m (g / 64) v) j ≡ digit m j
 digit-other m g v j l b n f =
     ⊎-elim
@@ -145,7 +145,7 @@ sized-set e m off s =
     let g = granule e off in
     pick-case Sized (holdable e off) (λ _. sized-number m (g / 64) (mark (g % 64) (getD m (g / 64) 0)) (mark-lt 64 (g % 64) (getD m (g / 64) 0) (low g) (s .below (g / 64))) s) (λ _. s)
 
-sized-drop : (e : Edition) (m : List ℕ) (off : ℕ) → Sized m → Sized (dropMark e m off)
+pub sized-drop : (e : Edition) (m : List ℕ) (off : ℕ) → Sized m → Sized (dropMark e m off)
 unfolding dropMark
 sized-drop e m off s =
     let g = granule e off in

@@ -16,6 +16,7 @@ use Rattle.promises.specs.Requests.{Requests}
 use Rattle.promises.specs.RebuildKept.{rebuild}
 use Rattle.promises.specs.SwayedKept.{swayed}
 use Rattle.promises.specs.SettledKept.{settled}
+use Rattle.promises.specs.BatchKept.{batch}
 
 the-rules : TheRules
 the-rules =
@@ -62,4 +63,4 @@ kept =
 
 -- and document 02's requests
 pub requests-kept : Requests
-requests-kept = record { rebuild = rebuild }
+requests-kept = record { rebuild = rebuild; batch = batch }

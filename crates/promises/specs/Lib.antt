@@ -14,7 +14,9 @@ pub mod LendsKept
 pub mod SwayedKept
 pub mod SettledKept
 pub mod RebuildKept
+pub mod BatchKept
 pub mod AllKept
 pub mod Instance
 pub mod GrantsInstance
 pub mod RebuildInstance
+pub mod BatchInstance

@@ -56,7 +56,7 @@ links-back : (xs : List ChunkOff) → links (offsets xs) ≡ xs
 links-back [] = refl
 links-back (x ∷ xs) = ap (λ z. x ∷ z) (links-back xs)
 
-abbrev control : holds.Control → Control
+abbrev pub control : holds.Control → Control
 control c =
     record {
       smallmap = c .smallMap;
@@ -84,7 +84,7 @@ withLinks c hs ts =
       length = c .length;
     }
 
-control-back : (c : Control) → control (numbers c) ≡ c
+pub control-back : (c : Control) → control (numbers c) ≡ c
 unfolding withLinks
 control-back c = ap (λ z. withLinks c z (links (offsets (c .treebins)))) (links-back (c .smallbins)) ∙ ap (withLinks c (c .smallbins)) (links-back (c .treebins))
 

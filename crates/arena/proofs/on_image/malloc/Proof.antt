@@ -1,12 +1,12 @@
 use borrow.Author.Tests.{not-true, not-false}
-use Rattle.arena.proofs.OnImageCode.{tests, call-count, call-unsound, count-yes, malloc-many, malloc-told}
+use Rattle.arena.proofs.OnImageCode.{tests, call-count, call-unsound, malloc-many, malloc-told}
 use borrow.Author.Needs.{needs}
 use Rattle.arena.proofs.on_image.malloc.Statement.{statement}
 use Rattle.arena.proofs.on_image.malloc.Tie as tie
 use Rattle.arena.proofs.on_image.malloc.Reads as reads
 use Rattle.arena.proofs.on_image.malloc.Lts as lts
 use Rattle.arena.proofs.on_image.granted.Reads as granted-reads
-use Rattle.arena.proofs.on_image.too_many.Reads as too-many-reads
+use Rattle.rows.proofs.too_many.Reads as too-many-reads
 use Rattle.index.proofs.sizes.request2size.Reads as request2size-reads
 use Rattle.malloc.proofs.malloc_chunk.Reads as malloc-chunk-reads
 use Rattle.sound.proofs.sound.Reads as sound-reads
@@ -34,7 +34,7 @@ returns-2 c = call-unsound _ _ _ (c .before .before .before .before .before .wor
 
 -- src/on_image.rt:66:8
 too-many-requires : tie.Need-too-many-requires
-too-many-requires c κs = search (count-yes, tests, needs)
+too-many-requires c κs = search needs
 
 -- src/on_image.rt:67:9
 same-length-2 : tie.Need-same-length-2

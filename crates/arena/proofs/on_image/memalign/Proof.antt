@@ -1,13 +1,13 @@
 use borrow.Author.Tests.{not-true, not-false}
-use Rattle.arena.proofs.OnImageCode.{tests, call-count, call-unsound, count-yes, memalign-odd, memalign-many, memalign-told}
+use Rattle.arena.proofs.OnImageCode.{tests, call-count, call-unsound, memalign-odd, memalign-many, memalign-told}
 use borrow.Author.Needs.{needs}
 use Rattle.arena.proofs.on_image.memalign.Statement.{statement}
 use Rattle.arena.proofs.on_image.memalign.Tie as tie
 use Rattle.arena.proofs.on_image.memalign.Reads as reads
 use Rattle.arena.proofs.on_image.memalign.Lts as lts
-use Rattle.arena.proofs.on_image.alignment_ok.Reads as alignment-ok-reads
+use Rattle.rows.proofs.alignment_ok.Reads as alignment-ok-reads
 use Rattle.arena.proofs.on_image.granted.Reads as granted-reads
-use Rattle.arena.proofs.on_image.too_many.Reads as too-many-reads
+use Rattle.rows.proofs.too_many.Reads as too-many-reads
 use Rattle.index.proofs.sizes.request2size.Reads as request2size-reads
 use Rattle.memalign.proofs.memalign_chunk.Reads as memalign-chunk-reads
 use Rattle.sound.proofs.sound.Reads as sound-reads
@@ -47,7 +47,7 @@ returns-3 c = memalign-odd _ _ (c .before .before .before .before .before .befor
 
 -- src/on_image.rt:120:8
 too-many-requires : tie.Need-too-many-requires
-too-many-requires c κs = search (count-yes, tests, needs)
+too-many-requires c κs = search needs
 
 -- src/on_image.rt:121:9
 same-length-3 : tie.Need-same-length-3

@@ -1,12 +1,12 @@
 use borrow.Author.Tests.{not-true, not-false}
-use Rattle.arena.proofs.OnImageCode.{tests, call-count, call-unsound, count-yes, realloc-many, realloc-dead, realloc-told}
+use Rattle.arena.proofs.OnImageCode.{tests, call-count, call-unsound, realloc-many, realloc-dead, realloc-told}
 use borrow.Author.Needs.{needs}
 use Rattle.arena.proofs.on_image.realloc.Statement.{statement}
 use Rattle.arena.proofs.on_image.realloc.Tie as tie
 use Rattle.arena.proofs.on_image.realloc.Reads as reads
 use Rattle.arena.proofs.on_image.realloc.Lts as lts
 use Rattle.arena.proofs.on_image.granted.Reads as granted-reads
-use Rattle.arena.proofs.on_image.too_many.Reads as too-many-reads
+use Rattle.rows.proofs.too_many.Reads as too-many-reads
 use Rattle.chunk.proofs.access.from_mem.Reads as from-mem-reads
 use Rattle.index.proofs.sizes.request2size.Reads as request2size-reads
 use Rattle.realloc.proofs.realloc_chunk.Reads as realloc-chunk-reads
@@ -36,7 +36,7 @@ returns-2 c = call-unsound _ _ _ (c .before .before .before .before .before .wor
 
 -- src/on_image.rt:98:8
 too-many-requires : tie.Need-too-many-requires
-too-many-requires c κs = search (count-yes, tests, needs)
+too-many-requires c κs = search needs
 
 -- src/on_image.rt:99:9
 same-length-2 : tie.Need-same-length-2
