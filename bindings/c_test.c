@@ -69,6 +69,7 @@ int main(void) {
     check_number("batch, answers", memcmp(answers, expected, sizeof answers) != 0, 0);
     check("free 832", nuka_free(LENT, 832), NUKA_OK, 0);
 
+    memcpy(before, arena, sizeof arena);
     memset(rec, 0x5a, sizeof rec);
     check("rebuild refused", nuka_rebuild(LENT, 16), NUKA_WORD_COUNT, 0);
     check_number("the empty record", rec[4], NUKA_NONE);

@@ -64,7 +64,10 @@ impl<'a> Pair<'a> {
     pub fn step(&mut self, step: Step) -> Result<Option<Answer>, String> {
         match step {
             Step::Ask(ask) => self.ask(ask).map(Some),
-            Step::Rebuild(start) => self.rebuild(start).map(Some),
+            Step::Rebuild(start) => {
+                self.run = None;
+                self.rebuild(start).map(Some)
+            }
             Step::AskLent(..) | Step::RebuildLent(_) | Step::SetUp(_) | Step::Sound(_) => {
                 lent::refused(self.lib, &self.ours, step).map(Some)
             }

@@ -37,7 +37,7 @@ pub enum Step {
     Sound(Lent),
     /// a batch begins here
     Mark,
-    /// the calls since the mark, as one batch; nothing where an owner wrote since, or nothing was marked
+    /// the calls since the mark, as one batch; nothing where an owner wrote or the record was rebuilt since, or nothing was marked
     Batch(u64),
     /// the owner of a word of the arena writes it; nothing where it has none
     Write(u64, u64),

@@ -13,7 +13,7 @@ struct Base<'a> {
 /// One of the changes; none where the state has nothing for it.
 pub fn change(rng: &mut Rng, state: &Ours, places: &Places) -> Vec<Change> {
     let base = Base { state, places };
-    match rng.below(15) {
+    match rng.below(18) {
         0 => base.children_change_sides(rng),
         1 => base.bin_moves(rng),
         2 => base.spare_forgotten(),
@@ -27,6 +27,9 @@ pub fn change(rng: &mut Rng, state: &Ours, places: &Places) -> Vec<Change> {
         11 => base.equal_size_below(rng),
         12 => base.spare_told_off_its_place(rng),
         13 => base.last_becomes_spare(rng),
+        14 => base.last_is_binned(),
+        15 => base.border_moves_by_a_word(rng),
+        16 => base.longer_map(rng),
         _ => base.small_in_a_tree(rng),
     }
     .unwrap_or_default()
@@ -138,6 +141,38 @@ impl Base<'_> {
             Change::Record(2, chunk),
             Change::Record(3, size),
         ])
+    }
+
+    /// The chunk before the top goes into its small bin, which was empty: all is told, but that the top adjoins it.
+    fn last_is_binned(&self) -> Option<Vec<Change>> {
+        let chunk = *self.places.chunks.last()?;
+        let (size, top) = (self.size(chunk), self.state.record[4]);
+        let bin = (size / 8) as usize;
+        if size >= 256 || self.state.record[8 + bin] != NONE {
+            return None;
+        }
+        Some(vec![
+            set(chunk, 1, size + (self.word(chunk, 1) & 1)),
+            set(chunk, 2, NONE),
+            set(chunk, 3, NONE),
+            set(top, 0, size),
+            Change::Record(8 + bin, chunk),
+            Change::Record(0, self.state.record[0] | 1 << bin),
+        ])
+    }
+
+    /// Two used chunks whose sizes are 8 more and 8 less, the second one's head a word further on.
+    fn border_moves_by_a_word(&self, rng: &mut Rng) -> Option<Vec<Change>> {
+        let (a, b) = self.neighbours(rng)?;
+        let (head, next) = (self.word(a, 1), self.word(b, 1));
+        Some(vec![set(a, 1, head + 8), set(b, 2, next - 8)])
+    }
+
+    /// A map with a bit above its 32.
+    fn longer_map(&self, rng: &mut Rng) -> Option<Vec<Change>> {
+        let map = rng.below(2) as usize;
+        let bits = self.state.record[map] | 1 << (32 + rng.below(32));
+        Some(vec![Change::Record(map, bits)])
     }
 
     /// Sound where both are used.
