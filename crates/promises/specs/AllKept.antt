@@ -43,7 +43,8 @@ histories =
       stays = λ w es fs x n a p u. history.stays w a es fs x n p u;
       keeps = λ w es fs x n i a p l u v. history.keeps w a es fs x n i p l u v;
       reads-back = λ w es x n i v a p l. history.reads-back w a es x n i v p l;
-      resize-keeps = λ w es x y m n n′ i a p q p′ l l′. resize-keeps (then w es) (history.heap w a es) (history.held w a es) x y m n n′ i p q p′ l l′;
+      resize-keeps = λ w es x y m n n′ i a p q p′ l l′. resize-keeps (then w es) (history.heap w a es)
+          (history.held w a es) x y m n n′ i p q p′ l l′;
       fresh-record = λ w es a f. history.fresh-record w a es f;
       fresh-answers = λ w v es fs a q f. history.fresh-answers w a v es fs q f;
     }

@@ -1,4 +1,5 @@
--- DEMAND 1 IS KEPT. Rows 1 and 2 by the order of the tests and the check that is exact, on the record's words; rows 3 to 6 by the rules, which the
+-- DEMAND 1 IS KEPT. Rows 1 and 2 by the order of the tests and the check that is exact, on the record's words; rows 3 to 6 by the rules,
+-- which the
 -- calls obey; what a refusal leaves by what each call does on a sound pair. Assumes nothing.
 use mathlib.Core.Path.{_≡_, refl, sym, _∙_, ap, subst}
 use mathlib.Core.Bool.{Bool, true, false}
@@ -77,14 +78,16 @@ unfolding callA
 unchanged c w k f =
     let t = callB wide (image c) w k in
     let z = refused-still (t .answer) f in
-    ap (λ d. box d (t .words)) (back (t .answer) c (t .image) z) ∙ ap (box c) (rows.refusal-changes-nothing wide (image c) w (image-length c) k z .1)
+    ap (λ d. box d (t .words)) (back (t .answer) c (t .image) z)
+    ∙ ap (box c) (rows.refusal-changes-nothing wide (image c) w (image-length c) k z .1)
 
 within : (c : Control) (w : List ℕ) (k : Call) → length (callA wide c w k .words) ≡ length w
 unfolding callA callB
 within c w k =
     pick-case (λ (t : Told). length (t .words) ≡ length w) (allowedCount (length w))
     (λ _. pick-case (λ (t : Told). length (t .words) ≡ length w) (soundB wide (image c) w)
-    (λ y. let s = sound-yes wide (image c) w (image-length c) y in call-obeys wide (image c) w (s .0) (record { image = image-length c; near = s .1 }) k .count) (λ _. refl))
+    (λ y. let s = sound-yes wide (image c) w (image-length c) y in call-obeys wide (image c) w (s .0)
+    (record { image = image-length c; near = s .1 }) k .count) (λ _. refl))
     (λ _. refl)
 
 -- ---- set-up
@@ -108,7 +111,8 @@ module _ (w : List ℕ) where
   set-up-head q =
       ap (λ z. getD z 1 0) (set-up-words q)
       ∙ getD-set-other (set w 1 (8 * (length w - 10) + 1)) (length w - 9) 1 80 0 (λ z. omega (arith, z, q .1))
-      ∙ getD-set-same w 1 (8 * (length w - 10) + 1) 0 (omega (arith, q .1)) ∙ (let z : 8 * (length w - 10) + 1 ≡ 8 * length w - 80 + 1 = omega (arith, q .1) in z)
+      ∙ getD-set-same w 1 (8 * (length w - 10) + 1) 0 (omega (arith, q .1))
+      ∙ (let z : 8 * (length w - 10) + 1 ≡ 8 * length w - 80 + 1 = omega (arith, q .1) in z)
 
   set-up-foot : Allowed (length w) → getD (setUpA wide w .words) (length w - 9) 0 ≡ 80
   set-up-foot q =

@@ -1,4 +1,5 @@
--- WHAT A GRANTED CALL WAS GRANTED BY: on a held heap a grant is the rule's, at the rule's place, and the heap after it is the rule's. One record a call,
+-- WHAT A GRANTED CALL WAS GRANTED BY: on a held heap a grant is the rule's, at the rule's place, and the heap after it is the rule's. One
+-- record a call,
 -- so that every statement about grants starts from it. Assumes nothing.
 use mathlib.Core.Path.{_≡_, refl, sym, _∙_, ap}
 use mathlib.Core.Bool.{Bool, true, false}
@@ -19,8 +20,10 @@ use Rattle.rules.specs.Realloc.{realloc}
 use Rattle.rules.specs.Memalign.{memalign}
 use Rattle.rules.specs.Source.{Source}
 use Rattle.rules.specs.Tidy.{TidyHeap}
-use Rattle.rules.specs.Calls.{Call, Malloc, Free, Realloc, Memalign, Usable, Answer, granted, done, bytes, refused, bad-alignment, too-many, not-live, no-room}
-use Rattle.rules.specs.Calls.{Outcome, refuse, isIn, alignments, blockOf, liveSize, grantOr6, movedOr6, freeCall, reallocCall, usableCall, answerTo}
+use Rattle.rules.specs.Calls.{Call, Malloc, Free, Realloc, Memalign, Usable, Answer, granted, done, bytes, refused, bad-alignment, too-many}
+use Rattle.rules.specs.Calls.{not-live, no-room}
+use Rattle.rules.specs.Calls.{Outcome, refuse, isIn, alignments, blockOf, liveSize, grantOr6, movedOr6, freeCall, reallocCall, usableCall}
+use Rattle.rules.specs.Calls.{answerTo}
 use Rattle.holds.specs.Holds.{Control, Holds}
 use Rattle.holds.specs.Lookup.{heads-tidy}
 use Rattle.holds.specs.Ops.{state}
@@ -81,17 +84,21 @@ module _ (c : Control) (w : List ℕ) (h : Heap) (n : Holds wide c w h) where
 
   -- unless it asks for too many bytes
   few : (k : Call) (x off : ℕ) (A : Type 0) (o : Outcome) → answerTo wide (length w) h k ≡ pick (ltb (8 * length w) x) (refuse h too-many) o
-      → (x ≤ 8 * length w → answerTo wide (length w) h k ≡ o → o .answer ≡ granted off → A) → answerTo wide (length w) h k .answer ≡ granted off → A
+      → (x ≤ 8 * length w → answerTo wide (length w) h k ≡ o → o .answer ≡ granted off → A)
+      → answerTo wide (length w) h k .answer ≡ granted off → A
   few k x off A o q f = go (ltb (8 * length w) x) refl q
     where
-      go : (b : Bool) → ltb (8 * length w) x ≡ b → answerTo wide (length w) h k ≡ pick b (refuse h too-many) o → answerTo wide (length w) h k .answer ≡ granted off → A
-      go true z r u = granted-refused (refused too-many) (λ v. let b : ⊥ = omega (arith, v) in b) (sym (ap (λ (t : Outcome). t .answer) r) ∙ u)
+      go : (b : Bool) → ltb (8 * length w) x ≡ b → answerTo wide (length w) h k ≡ pick b (refuse h too-many) o
+          → answerTo wide (length w) h k .answer ≡ granted off → A
+      go true z r u = granted-refused (refused too-many) (λ v. let b : ⊥ = omega (arith, v) in b)
+          (sym (ap (λ (t : Outcome). t .answer) r) ∙ u)
       go false z r u = f (ltb-false (8 * length w) x z) r (sym (ap (λ (t : Outcome). t .answer) r) ∙ u)
 
   pub by-malloc : (x off : ℕ) → says c w (Malloc x) ≡ granted off → (x ≤ 8 * length w) × By (Malloc x) off (malloc wide h (needWords 8 x))
   by-malloc x off u =
       few (Malloc x) x off _ (grantOr6 wide h (malloc wide h (needWords 8 x))) refl
-      (λ l q v. (l, by-grant (Malloc x) off (malloc wide h (needWords 8 x)) (ap (λ (t : Outcome). t .heap) q) v)) (sym (answer (Malloc x)) ∙ u)
+      (λ l q v. (l, by-grant (Malloc x) off (malloc wide h (needWords 8 x)) (ap (λ (t : Outcome). t .heap) q) v))
+      (sym (answer (Malloc x)) ∙ u)
 
   -- of a resize: the block, too
   pub record Resized (b x off : ℕ) : Type 0 where
@@ -106,23 +113,28 @@ module _ (c : Control) (w : List ℕ) (h : Heap) (n : Holds wide c w h) where
 
   pub by-realloc : (b x off : ℕ) → says c w (Realloc b x) ≡ granted off → Resized b x off
   by-realloc b x off u =
-      few (Realloc b x) x off _ (reallocCall wide h (liveSize wide 0 (h .chunks) b) b x) refl (λ l q v. live l q (liveSize wide 0 (h .chunks) b) refl v) (sym (answer (Realloc b x)) ∙ u)
+      few (Realloc b x) x off _ (reallocCall wide h (liveSize wide 0 (h .chunks) b) b x) refl
+      (λ l q v. live l q (liveSize wide 0 (h .chunks) b) refl v) (sym (answer (Realloc b x)) ∙ u)
     where
       nb : ℕ
       nb = needWords 8 x
 
-      grants : (p s : ℕ) (o : Option Grant) → answerTo wide (length w) h (Realloc b x) ≡ movedOr6 wide h p s o → movedOr6 wide h p s o .answer ≡ granted off → By (Realloc b x) off o
+      grants : (p s : ℕ) (o : Option Grant) → answerTo wide (length w) h (Realloc b x) ≡ movedOr6 wide h p s o
+          → movedOr6 wide h p s o .answer ≡ granted off → By (Realloc b x) off o
       grants p s none q v = granted-refused (refused no-room) (λ y. let z : ⊥ = omega (arith, y) in z) v
       grants p s (some g) q v = record { grant = g; is = refl; place = sym (ap value v); heap = ap (λ (t : Outcome). t .heap) q }
 
-      live : x ≤ 8 * length w → answerTo wide (length w) h (Realloc b x) ≡ reallocCall wide h (liveSize wide 0 (h .chunks) b) b x → (o : Option ℕ) → liveSize wide 0 (h .chunks) b ≡ o
+      live : x ≤ 8 * length w → answerTo wide (length w) h (Realloc b x) ≡ reallocCall wide h (liveSize wide 0 (h .chunks) b) b x
+          → (o : Option ℕ) → liveSize wide 0 (h .chunks) b ≡ o
           → reallocCall wide h (liveSize wide 0 (h .chunks) b) b x .answer ≡ granted off → Resized b x off
       live l q none z v =
-          granted-refused (refused (not-live b)) (λ y. let a : ⊥ = omega (arith, y) in a) (sym (ap (λ o. reallocCall wide h o b x .answer) z) ∙ v)
+          granted-refused (refused (not-live b)) (λ y. let a : ⊥ = omega (arith, y) in a)
+          (sym (ap (λ o. reallocCall wide h o b x .answer) z) ∙ v)
       live l q (some s) z v =
           let a = live-starts wide 0 (h .chunks) b s z in
           let r : reallocCall wide h (liveSize wide 0 (h .chunks) b) b x ≡ movedOr6 wide h (a .0) s (realloc wide h (a .0) nb) =
-          ap (λ o. reallocCall wide h o b x) z ∙ ap (λ p. movedOr6 wide h p s (realloc wide h p nb)) (place-is c w h n b x s (a .0) (a .2) (a .1)) in
+          ap (λ o. reallocCall wide h o b x) z
+          ∙ ap (λ p. movedOr6 wide h p s (realloc wide h p nb)) (place-is c w h n b x s (a .0) (a .2) (a .1)) in
           record {
             fits = l;
             at = a .0;
@@ -147,25 +159,34 @@ module _ (c : Control) (w : List ℕ) (h : Heap) (n : Holds wide c w h) where
       nb = needWords 8 x
 
       go : (b : Bool) → isIn al (alignments wide) ≡ b
-          → answerTo wide (length w) h (Memalign al x) ≡ pick b (pick (ltb (8 * length w) x) (refuse h too-many) (grantOr6 wide h (memalign wide h (al / 8) nb))) (refuse h bad-alignment)
+          → answerTo wide (length w) h (Memalign al x) ≡ pick b
+          (pick (ltb (8 * length w) x) (refuse h too-many) (grantOr6 wide h (memalign wide h (al / 8) nb))) (refuse h bad-alignment)
           → Aligned al x off
       go true z q =
           few (Memalign al x) x off _ (grantOr6 wide h (memalign wide h (al / 8) nb)) q
-          (λ l r v. record { fits = l; good = one-of (Good wide) al (alignments wide) z (goods wide); by = by-grant (Memalign al x) off (memalign wide h (al / 8) nb) (ap (λ (t : Outcome). t .heap) r) v })
+          (λ l r v. record {
+            fits = l;
+            good = one-of (Good wide) al (alignments wide) z (goods wide);
+            by =
+                by-grant (Memalign al x) off (memalign wide h (al / 8) nb) (ap (λ (t : Outcome). t .heap) r) v;
+          })
           (sym (answer (Memalign al x)) ∙ u)
       go false z q =
-          granted-refused (refused bad-alignment) (λ y. let a : ⊥ = omega (arith, y) in a) (sym (ap (λ (t : Outcome). t .answer) q) ∙ sym (answer (Memalign al x)) ∙ u)
+          granted-refused (refused bad-alignment) (λ y. let a : ⊥ = omega (arith, y) in a)
+          (sym (ap (λ (t : Outcome). t .answer) q) ∙ sym (answer (Memalign al x)) ∙ u)
 
   -- free and usable grant nothing
   pub free-none : {A : Type 0} (b off : ℕ) → says c w (Free b) ≡ granted off → A
-  free-none b off u = not-granted (answerTo wide (length w) h (Free b) .answer) (go (liveSize wide 0 (h .chunks) b)) (sym (answer (Free b)) ∙ u)
+  free-none b off u = not-granted (answerTo wide (length w) h (Free b) .answer) (go (liveSize wide 0 (h .chunks) b))
+      (sym (answer (Free b)) ∙ u)
     where
       go : (o : Option ℕ) → isGrant (freeCall wide h o b .answer) ≡ 0
       go none = refl
       go (some s) = refl
 
   pub usable-none : {A : Type 0} (b off : ℕ) → says c w (Usable b) ≡ granted off → A
-  usable-none b off u = not-granted (answerTo wide (length w) h (Usable b) .answer) (go (liveSize wide 0 (h .chunks) b)) (sym (answer (Usable b)) ∙ u)
+  usable-none b off u = not-granted (answerTo wide (length w) h (Usable b) .answer) (go (liveSize wide 0 (h .chunks) b))
+      (sym (answer (Usable b)) ∙ u)
     where
       go : (o : Option ℕ) → isGrant (usableCall wide h o b .answer) ≡ 0
       go none = refl
@@ -173,4 +194,5 @@ module _ (c : Control) (w : List ℕ) (h : Heap) (n : Holds wide c w h) where
 
   -- where malloc's answer comes from
   pub source : (x : ℕ) → x ≤ 8 * length w → Source wide h (needWords 8 x) (malloc wide h (needWords 8 x))
-  source x l = malloc-source wide (state c w) h n (needWords 8 x) (even wide (image c) w h held x l) (least wide (image c) w h held x l) (low wide (image c) w h held x l)
+  source x l = malloc-source wide (state c w) h n (needWords 8 x) (even wide (image c) w h held x l) (least wide (image c) w h held x l)
+      (low wide (image c) w h held x l)

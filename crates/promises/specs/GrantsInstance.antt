@@ -1,4 +1,5 @@
--- ONE INSTANCE OF EACH PROMISE of demand 2, of grants, of lending and of settled outcomes, on the histories of `Instance` and three more. Assumes nothing.
+-- ONE INSTANCE OF EACH PROMISE of demand 2, of grants, of lending and of settled outcomes, on the histories of `Instance` and three more.
+-- Assumes nothing.
 use mathlib.Core.Path.{_≡_, refl, sym, _∙_, ap, subst}
 use mathlib.Core.List.{List, [], _∷_}
 use mathlib.Core.Logic.{_↔_, inl, inr}
@@ -47,9 +48,11 @@ need-25 = kept .numbers .need 25 (omega arith)
 
 no-links : (h : Heap) → h .small ≡ replicate 32 [] → h .tries ≡ replicate 32 leaf → (i : ℕ) → Linked h i → ⊥
 no-links h p q i (inl u) =
-    let z = ap (λ b. countL (u .1) (getD b (u .0) [])) p ∙ ap (countL (u .1)) (getD-replicate {A = List ℕ} 32 (u .0) [] [] (u .2)) in omega (arith, u .3, z)
+    let z = ap (λ b. countL (u .1) (getD b (u .0) [])) p
+    ∙ ap (countL (u .1)) (getD-replicate {A = List ℕ} 32 (u .0) [] [] (u .2)) in omega (arith, u .3, z)
 no-links h p q i (inr u) =
-    let z = ap (λ b. count (u .1) (getD b (u .0) leaf)) q ∙ ap (count (u .1)) (getD-replicate {A = Tree} 32 (u .0) leaf leaf (u .2)) in omega (arith, u .3, z)
+    let z = ap (λ b. count (u .1) (getD b (u .0) leaf)) q
+    ∙ ap (count (u .1)) (getD-replicate {A = Tree} 32 (u .0) leaf leaf (u .2)) in omega (arith, u .3, z)
 
 abbrev fresh : List Event
 fresh = []
@@ -67,8 +70,10 @@ not-governed (inr (inl (inl (inr (inr u))))) = omega (arith, u)
 not-governed (inr (inl (inr u))) = no-links (after-all (asks (Malloc 24) ∷ [])) refl refl 60 u
 not-governed (inr (inr u)) = u
 
-pub untouched : getD (left (then zeros fresh .control) (then zeros fresh .words) (Malloc 24) .words) 60 0 ≡ getD (then zeros fresh .words) 60 0
-untouched = kept .the-rules .reaches (then zeros fresh .control) (then zeros fresh .words) (freshHeap 128) (Malloc 24) 60 (held zeros count-128 fresh) not-governed (λ z. z)
+pub untouched : getD (left (then zeros fresh .control) (then zeros fresh .words) (Malloc 24) .words) 60 0 ≡ getD
+    (then zeros fresh .words) 60 0
+untouched = kept .the-rules .reaches (then zeros fresh .control) (then zeros fresh .words) (freshHeap 128) (Malloc 24) 60
+    (held zeros count-128 fresh) not-governed (λ z. z)
 
 -- ---- demand 2
 
@@ -78,11 +83,13 @@ answer-16 = ruled-so fresh (Malloc 24)
 
 -- the first block comes from the top, where nothing else is there to serve it
 pub from-top : Small (freshHeap 128) (needWords 8 24)
-from-top = kept .the-rules .bins-first (then zeros fresh .control) (then zeros fresh .words) (freshHeap 128) (Malloc 24) 16 (held zeros count-128 fresh) answer-16 (omega arith)
+from-top = kept .the-rules .bins-first (then zeros fresh .control) (then zeros fresh .words) (freshHeap 128) (Malloc 24) 16
+    (held zeros count-128 fresh) answer-16 (omega arith)
 
 pub top-left : (left (then zeros fresh .control) (then zeros fresh .words) (Malloc 24) .control .top ≡ 0 + 8 * needWords 8 24)
     × (left (then zeros fresh .control) (then zeros fresh .words) (Malloc 24) .control .topSize ≡ 944 - 8 * needWords 8 24)
-top-left = kept .grants .rest-top (then zeros fresh .control) (then zeros fresh .words) (freshHeap 128) 24 (held zeros count-128 fresh) answer-16
+top-left = kept .grants .rest-top (then zeros fresh .control) (then zeros fresh .words) (freshHeap 128) 24
+    (held zeros count-128 fresh) answer-16
 
 abbrev two : List Event
 two = asks (Malloc 24) ∷ asks (Malloc 300) ∷ []
@@ -93,12 +100,14 @@ unfolding needWords need roundUp treeIndex minSize huge
 answer-48 = ruled-so two (Realloc 48 100)
 
 pub own-place : OwnPlace (after-all two) 48 100
-own-place = kept .the-rules .own-place-first (then zeros two .control) (then zeros two .words) (after-all two) 48 100 (held zeros count-128 two) .0 answer-48 .1
+own-place = kept .the-rules .own-place-first (then zeros two .control) (then zeros two .words) (after-all two) 48 100
+    (held zeros count-128 two) .0 answer-48 .1
 
 pub copies-none : Copies wide (after-all two) (Realloc 48 100) 7 → ⊥
 unfolding needWords need roundUp treeIndex minSize huge
 copies-none =
-    kept .the-rules .copies-none (then zeros two .control) (then zeros two .words) (after-all two) 100 4 40 7 (held zeros count-128 two, inr (inl (refl, refl)), answer-48)
+    kept .the-rules .copies-none (then zeros two .control) (then zeros two .words) (after-all two) 100 4 40 7
+    (held zeros count-128 two, inr (inl (refl, refl)), answer-48)
 
 -- the block of 4 words at 0 moves to 50: three words are copied, into words 52, 53 and 54
 moves : Resizes (then zeros before .control) (then zeros before .words) (after-all before) 100 0 4 50
@@ -106,35 +115,42 @@ unfolding needWords need roundUp treeIndex minSize huge
 moves = (held zeros count-128 before, inl (refl, refl), answer-416)
 
 pub copies-into : Copies wide (after-all before) (Realloc 16 100) 54 ↔ (52 ≤ 54) × (8 * 54 < 8 * 52 + 24)
-copies-into = kept .the-rules .copies-into (then zeros before .control) (then zeros before .words) (after-all before) 100 0 4 50 54 moves (λ z. let b : ⊥ = omega (arith, z) in b)
+copies-into = kept .the-rules .copies-into (then zeros before .control) (then zeros before .words) (after-all before) 100 0 4 50 54 moves
+    (λ z. let b : ⊥ = omega (arith, z) in b)
 
 pub copies-what : getD (left (then zeros before .control) (then zeros before .words) (Realloc 16 100) .words) 52 0 ≡ 7
 copies-what =
-    kept .the-rules .copies-what (then zeros before .control) (then zeros before .words) (after-all before) 100 0 4 50 0 moves (λ z. let b : ⊥ = omega (arith, z) in b) (omega arith) ∙ kept-seven
+    kept .the-rules .copies-what (then zeros before .control) (then zeros before .words) (after-all before) 100 0 4 50 0 moves
+    (λ z. let b : ⊥ = omega (arith, z) in b) (omega arith) ∙ kept-seven
 
 pub copies-many : 8 * answerTo wide (length (then zeros before .words)) (after-all before) (Realloc 16 100) .copied ≡ 24
-copies-many = kept .the-rules .copies-many (then zeros before .control) (then zeros before .words) (after-all before) 100 0 4 50 moves (λ z. let b : ⊥ = omega (arith, z) in b)
+copies-many = kept .the-rules .copies-many (then zeros before .control) (then zeros before .words) (after-all before) 100 0 4 50 moves
+    (λ z. let b : ⊥ = omega (arith, z) in b)
 
 -- the chunk at 416 has 14 words
 pub usable-104 : says (then zeros morning .control) (then zeros morning .words) (Usable 416) ≡ bytes (8 * 14 - 8)
 unfolding needWords need roundUp treeIndex minSize huge
-usable-104 = kept .the-rules .usable (then zeros morning .control) (then zeros morning .words) (after-all morning) 416 14 (held zeros count-128 morning) refl
+usable-104 = kept .the-rules .usable (then zeros morning .control) (then zeros morning .words) (after-all morning) 416 14
+    (held zeros count-128 morning) refl
 
 -- ---- grants: the block that moved to 416, and an aligned one at 384
 
 pub enough : (m : ℕ) × LiveAt (left (then zeros before .control) (then zeros before .words) (Realloc 16 100)) 416 m × (100 ≤ m)
-enough = kept .grants .enough (then zeros before .control) (then zeros before .words) (after-all before) (Realloc 16 100) 416 (held zeros count-128 before) answer-416
+enough = kept .grants .enough (then zeros before .control) (then zeros before .words) (after-all before) (Realloc 16 100) 416
+    (held zeros count-128 before) answer-416
 
 pub tight-resize : 104 + 8 < 8 * needWords 8 100 + 32
 unfolding needWords need roundUp treeIndex minSize huge
 tight-resize =
-    kept .grants .tight-realloc (then zeros before .control) (then zeros before .words) (after-all before) 16 100 416 104 (held zeros count-128 before) answer-416
+    kept .grants .tight-realloc (then zeros before .control) (then zeros before .words) (after-all before) 16 100 416 104
+    (held zeros count-128 before) answer-416
     (live through 50 14 (inr (inr (inr (inr (inl (refl, refl)))))))
 
 pub tight-malloc : 24 + 8 < 8 * needWords 8 24 + 32
 unfolding needWords need roundUp treeIndex minSize huge
 tight-malloc =
-    kept .grants .tight-malloc (then zeros fresh .control) (then zeros fresh .words) (freshHeap 128) 24 16 24 (held zeros count-128 fresh) answer-16
+    kept .grants .tight-malloc (then zeros fresh .control) (then zeros fresh .words) (freshHeap 128) 24 16 24
+    (held zeros count-128 fresh) answer-16
     (live (asks (Malloc 24) ∷ []) 0 4 (inl (refl, refl)))
 
 abbrev two-blocks : List Event
@@ -147,14 +163,17 @@ answer-384 = ruled-so two-blocks (Memalign 64 24)
 pub tight : 24 + 8 ≤ 8 * needWords 8 24 + 32
 unfolding needWords need roundUp treeIndex minSize huge
 tight =
-    kept .grants .tight (then zeros two-blocks .control) (then zeros two-blocks .words) (after-all two-blocks) (Memalign 64 24) 384 24 (held zeros count-128 two-blocks) answer-384
+    kept .grants .tight (then zeros two-blocks .control) (then zeros two-blocks .words) (after-all two-blocks) (Memalign 64 24) 384 24
+    (held zeros count-128 two-blocks) answer-384
     (live (asks (Malloc 24) ∷ asks (Malloc 232) ∷ asks (Memalign 64 24) ∷ []) 46 4 (inr (inr (inr (inl (refl, refl))))))
 
 pub granule : 384 % 16 ≡ 0
-granule = kept .grants .granule (then zeros two-blocks .control) (then zeros two-blocks .words) (after-all two-blocks) (Memalign 64 24) 384 (held zeros count-128 two-blocks) answer-384
+granule = kept .grants .granule (then zeros two-blocks .control) (then zeros two-blocks .words) (after-all two-blocks) (Memalign 64 24) 384
+    (held zeros count-128 two-blocks) answer-384
 
 pub aligned : (j : ℕ) × (384 ≡ j * 64)
-aligned = kept .grants .aligned (then zeros two-blocks .control) (then zeros two-blocks .words) (after-all two-blocks) 64 24 384 (held zeros count-128 two-blocks) answer-384
+aligned = kept .grants .aligned (then zeros two-blocks .control) (then zeros two-blocks .words) (after-all two-blocks) 64 24 384
+    (held zeros count-128 two-blocks) answer-384
 
 -- ---- the remainder: of 208 bytes in a small bin, of 608 in a tree
 
@@ -167,12 +186,14 @@ serves-24 = (held zeros count-128 small-hole, inl (refl, refl), ruled-so small-h
 
 pub rest-split : LiveAt (left (then zeros small-hole .control) (then zeros small-hole .words) (Malloc 24)) 16 (8 * needWords 8 24 - 8)
 unfolding needWords need roundUp
-rest-split = kept .grants .rest-split (then zeros small-hole .control) (then zeros small-hole .words) (after-all small-hole) 24 0 26 serves-24 (omega arith)
+rest-split = kept .grants .rest-split (then zeros small-hole .control) (then zeros small-hole .words)
+    (after-all small-hole) 24 0 26 serves-24 (omega arith)
 
 pub rest-spare : (left (then zeros small-hole .control) (then zeros small-hole .words) (Malloc 24) .control .dv ≡ 8 * (0 + needWords 8 24))
     × (left (then zeros small-hole .control) (then zeros small-hole .words) (Malloc 24) .control .dvSize ≡ 8 * (26 - needWords 8 24))
 unfolding needWords need roundUp
-rest-spare = kept .grants .rest-spare (then zeros small-hole .control) (then zeros small-hole .words) (after-all small-hole) 24 0 26 serves-24 (omega arith) (inl (omega arith))
+rest-spare = kept .grants .rest-spare (then zeros small-hole .control) (then zeros small-hole .words)
+    (after-all small-hole) 24 0 26 serves-24 (omega arith) (inl (omega arith))
 
 serves-185 : Serves (then zeros small-hole .control) (then zeros small-hole .words) (after-all small-hole) 185 0 26
 unfolding needWords need roundUp treeIndex minSize huge
@@ -180,7 +201,8 @@ serves-185 = (held zeros count-128 small-hole, inl (refl, refl), ruled-so small-
 
 pub rest-stays : LiveAt (left (then zeros small-hole .control) (then zeros small-hole .words) (Malloc 185)) 16 200
 unfolding needWords need roundUp
-rest-stays = kept .grants .rest-stays (then zeros small-hole .control) (then zeros small-hole .words) (after-all small-hole) 185 0 26 serves-185 (omega arith)
+rest-stays = kept .grants .rest-stays (then zeros small-hole .control) (then zeros small-hole .words)
+    (after-all small-hole) 185 0 26 serves-185 (omega arith)
 
 abbrev large-hole : List Event
 large-hole = asks (Malloc 600) ∷ asks (Malloc 24) ∷ asks (Free 16) ∷ []
@@ -189,7 +211,8 @@ serves-300 : Serves (then zeros large-hole .control) (then zeros large-hole .wor
 unfolding needWords need roundUp treeIndex minSize huge bit
 serves-300 = (held zeros count-128 large-hole, inl (refl, refl), ruled-so large-hole (Malloc 300))
 
-pub rest-free : Starts 0 (answerTo wide (length (then zeros large-hole .words)) (after-all large-hole) (Malloc 300) .heap .chunks) (0 + needWords 8 300) (free (76 - needWords 8 300))
+pub rest-free : Starts 0 (answerTo wide (length (then zeros large-hole .words)) (after-all large-hole) (Malloc 300) .heap .chunks)
+    (0 + needWords 8 300) (free (76 - needWords 8 300))
 unfolding needWords need roundUp
 rest-free =
     kept .grants .rest-free (then zeros large-hole .control) (then zeros large-hole .words) (after-all large-hole)
@@ -197,11 +220,14 @@ rest-free =
     (calls-held wide (then zeros large-hole) (after-all large-hole) (held zeros count-128 large-hole) (Malloc 300) .held)
 
 -- there was no `dv`, and there is none
-pub rest-binned : (left (then zeros large-hole .control) (then zeros large-hole .words) (Malloc 300) .control .dv ≡ then zeros large-hole .control .dv)
-    × (left (then zeros large-hole .control) (then zeros large-hole .words) (Malloc 300) .control .dvSize ≡ then zeros large-hole .control .dvSize)
+pub rest-binned : (left (then zeros large-hole .control) (then zeros large-hole .words)
+    (Malloc 300) .control .dv ≡ then zeros large-hole .control .dv)
+    × (left (then zeros large-hole .control) (then zeros large-hole .words)
+    (Malloc 300) .control .dvSize ≡ then zeros large-hole .control .dvSize)
 unfolding needWords need roundUp treeIndex minSize huge bit
 rest-binned =
-    kept .grants .rest-binned (then zeros large-hole .control) (then zeros large-hole .words) (after-all large-hole) 300 0 76 serves-300 (omega arith)
+    kept .grants .rest-binned (then zeros large-hole .control) (then zeros large-hole .words) (after-all large-hole) 300 0 76 serves-300
+    (omega arith)
     (λ z. let b : ⊥ = omega (arith, sym z ∙ held zeros count-128 large-hole .spare .0) in b)
 
 -- ---- lending: the block of 104 bytes at 416, and none at 24
@@ -218,18 +244,23 @@ none-lent =
 pub lent-word : getD (lent wide (image (then zeros before .control)) (then zeros before .words) 16) 0 0 ≡ 7
 unfolding needWords need roundUp treeIndex minSize huge
 lent-word =
-    kept .lends .lent-words (then zeros before .control) (then zeros before .words) (after-all before) 0 4 0 (held zeros count-128 before) (inl (refl, refl)) (omega arith) ∙ kept-seven
+    kept .lends .lent-words (then zeros before .control) (then zeros before .words) (after-all before) 0 4 0 (held zeros count-128 before)
+    (inl (refl, refl)) (omega arith) ∙ kept-seven
 
-pub stored : back wide (image (then zeros before .control)) (then zeros before .words) 16 (set (lent wide (image (then zeros before .control)) (then zeros before .words) 16) 1 9)
+pub stored : back wide (image (then zeros before .control)) (then zeros before .words) 16
+    (set (lent wide (image (then zeros before .control)) (then zeros before .words) 16) 1 9)
     ≡ after wide (then zeros before) (writes 16 1 9 ∷ []) .words
-stored = kept .lends .store-writes (then zeros before .control) (then zeros before .words) (after-all before) 16 1 9 (held zeros count-128 before)
+stored = kept .lends .store-writes (then zeros before .control) (then zeros before .words) (after-all before) 16 1 9
+    (held zeros count-128 before)
 
 -- ---- settled: on 14 words whatever fits the contract of malloc is the refusal, with the given record and words
 
-bad : (c : arena.Control) → ends (answerOf (Refused BadCount)) (numbers c) (replicate 14 0) ≡ callA wide (numbers c) (replicate 14 0) (Malloc 24)
+bad : (c : arena.Control)
+    → ends (answerOf (Refused BadCount)) (numbers c) (replicate 14 0) ≡ callA wide (numbers c) (replicate 14 0) (Malloc 24)
 unfolding callA callB
 bad c = refl
 
-pub one-outcome : (c d : arena.Control) (v : List ℕ) (a : code.Answer) → ends (answerOf a) (numbers d) v ≡ callA wide (numbers c) (replicate 14 0) (Malloc 24)
+pub one-outcome : (c d : arena.Control) (v : List ℕ) (a : code.Answer)
+    → ends (answerOf a) (numbers d) v ≡ callA wide (numbers c) (replicate 14 0) (Malloc 24)
     → (a ≡ Refused BadCount) × (d ≡ c) × (v ≡ replicate 14 0)
 one-outcome c d v a p = kept .settled .call c d c (replicate 14 0) v (replicate 14 0) (Malloc 24) a (Refused BadCount) p (bad c)

@@ -1,4 +1,5 @@
--- WHAT IS GRANTED IS KEPT: a grant is the rule's (`GrantedBy`), and the rule's block has the need and little more, at an even place, memalign's at
+-- WHAT IS GRANTED IS KEPT: a grant is the rule's (`GrantedBy`), and the rule's block has the need and little more, at an even place,
+-- memalign's at
 -- an aligned one (`Blocks`, `MemalignLaws`); what malloc leaves of the chunk that served it is told by `Remainder`. Assumes nothing.
 use mathlib.Core.Path.{_≡_, refl, sym, _∙_, ap, subst}
 use mathlib.Core.Bool.{true}
@@ -69,7 +70,8 @@ module _ (c : Control) (w : List ℕ) (h : Heap) (n : Holds wide c w h) where
       → Grants h (needWords 8 (asksFor k)) (needWords 8 (asksFor k) + slack k) gone o → Got k off
   got k off gone o b a =
       let g = b .grant in
-      let y : Granted h (g .heap) (g .place) (needWords 8 (asksFor k)) (needWords 8 (asksFor k) + slack k) gone = subst (Grants h (needWords 8 (asksFor k)) (needWords 8 (asksFor k) + slack k) gone) (b .is) a in
+      let y : Granted h (g .heap) (g .place) (needWords 8 (asksFor k)) (needWords 8 (asksFor k) + slack k) gone =
+      subst (Grants h (needWords 8 (asksFor k)) (needWords 8 (asksFor k) + slack k) gone) (b .is) a in
       record {
         place = g .place;
         words = y .words;
@@ -90,7 +92,8 @@ module _ (c : Control) (w : List ℕ) (h : Heap) (n : Holds wide c w h) where
   got-of (Free b) off u = free-none c w h n b off u
   got-of (Realloc b x) off u =
       let r = by-realloc c w h n b x off u in
-      got (Realloc b x) off (λ z. z ≡ r .at) _ (r .by) (realloc-blocks wide (image c) w h (held c w h n) x (r .fits) (r .at) (r .words) (r .starts))
+      got (Realloc b x) off (λ z. z ≡ r .at) _ (r .by)
+      (realloc-blocks wide (image c) w h (held c w h n) x (r .fits) (r .at) (r .words) (r .starts))
   got-of (Memalign al x) off u =
       let r = by-memalign c w h n al x off u in
       let g = r .good in
@@ -108,7 +111,8 @@ module _ (c : Control) (w : List ℕ) (h : Heap) (n : Holds wide c w h) where
     g = got-of k off u
 
     live : LiveAt (left c w k) off (8 * (g .words - 1))
-    live = subst (λ z. LiveAt (left c w k) z (8 * (g .words - 1))) (sym (g .at)) (live-at (left c w k) (answerTo wide (length w) h k .heap) (after-held k) (g .place) (g .words) (g .starts))
+    live = subst (λ z. LiveAt (left c w k) z (8 * (g .words - 1))) (sym (g .at))
+        (live-at (left c w k) (answerTo wide (length w) h k .heap) (after-held k) (g .place) (g .words) (g .starts))
 
     enough : (m : ℕ) × LiveAt (left c w k) off m × (asksFor k ≤ m)
     enough = (8 * (g .words - 1), live, omega (arith, g .large, need-holds 8 (asksFor k) (omega arith), need-words 8 (asksFor k)))
@@ -125,9 +129,12 @@ module _ (c : Control) (w : List ℕ) (h : Heap) (n : Holds wide c w h) where
       let g = r .good in
       let nb = needWords 8 x in
       let fit = r .fits in
-      let a = memalign-grants wide h (2 * g .0) (g .0) nb (tidy c w h n) refl (omega (arith, g .2)) (even wide (image c) w h (held c w h n) x fit) (least wide (image c) w h (held c w h n) x fit)
-      (malloc-source wide (state c w) h n (nb + 2 * g .0 + 4) (omega (arith, even wide (image c) w h (held c w h n) x fit)) (omega arith) (big wide (image c) w h (held c w h n) x fit (g .0) (g .3))) in
-      let b : GrantsAligned h (2 * g .0) nb (some (r .by .grant)) = subst (GrantsAligned h (2 * g .0) nb) (ap (λ y. memalign wide h y nb) (sym (halved al g)) ∙ r .by .is) a in
+      let a = memalign-grants wide h (2 * g .0) (g .0) nb (tidy c w h n) refl (omega (arith, g .2))
+      (even wide (image c) w h (held c w h n) x fit) (least wide (image c) w h (held c w h n) x fit)
+      (malloc-source wide (state c w) h n (nb + 2 * g .0 + 4) (omega (arith, even wide (image c) w h (held c w h n) x fit)) (omega arith)
+      (big wide (image c) w h (held c w h n) x fit (g .0) (g .3))) in
+      let b : GrantsAligned h (2 * g .0) nb (some (r .by .grant)) =
+      subst (GrantsAligned h (2 * g .0) nb) (ap (λ y. memalign wide h y nb) (sym (halved al g)) ∙ r .by .is) a in
       (b .1 .0, r .by .place ∙ ap (λ z. 8 * z) (b .1 .1) ∙ mul-left-comm 8 (b .1 .0) (2 * g .0) ∙ ap (λ z. b .1 .0 * z) (sym (g .1)))
 
   -- ---- the remainder
@@ -156,22 +163,32 @@ module _ (c : Control) (w : List ℕ) (h : Heap) (n : Holds wide c w h) where
     rest : Left wide h o y s nb
     rest =
         subst (λ (z : Heap). Left wide h z y s nb) (sym (b .heap))
-        (malloc-left wide h (tidy c w h n) nb (malloc wide h nb) (b .grant) (source c w h n x (by-malloc c w h n x (blockOf wide y) u .0)) (b .is) y s st (omega (arith, b .place)))
+        (malloc-left wide h (tidy c w h n) nb (malloc wide h nb) (b .grant) (source c w h n x (by-malloc c w h n x (blockOf wide y) u .0))
+        (b .is) y s st (omega (arith, b .place)))
 
     d : Holds wide (left c w (Malloc x) .control) (left c w (Malloc x) .words) o
     d = after-held (Malloc x)
 
     block-live : (t : ℕ) → Starts 0 (o .chunks) y (used t) → LiveAt (left c w (Malloc x)) (blockOf wide y) (8 * t - 8)
     block-live t z =
-        subst (LiveAt (left c w (Malloc x)) (blockOf wide y)) (let q : 8 * (t - 1) ≡ 8 * t - 8 = omega arith in q) (live-at (left c w (Malloc x)) o d y t z)
+        subst (LiveAt (left c w (Malloc x)) (blockOf wide y)) (let q : 8 * (t - 1) ≡ 8 * t - 8 = omega arith in q)
+        (live-at (left c w (Malloc x)) o d y t z)
 
-    rest-spare : nb + 4 ≤ s → (8 * nb < 256) ⊎ (c .dv ≡ 8 * y) → (left c w (Malloc x) .control .dv ≡ 8 * (y + nb)) × (left c w (Malloc x) .control .dvSize ≡ 8 * (s - nb))
+    rest-spare : nb + 4 ≤ s → (8 * nb < 256) ⊎ (c .dv ≡ 8 * y)
+        → (left c w (Malloc x) .control .dv ≡ 8 * (y + nb)) × (left c w (Malloc x) .control .dvSize ≡ 8 * (s - nb))
     rest-spare l v =
-        let z = subst (λ e. SpareAt wide (left c w (Malloc x) .control .dv) (left c w (Malloc x) .control .dvSize) (o .chunks) e) (rest .spare l (⊎-elim inl (λ a. inr (dv-of y a)) v)) (d .spare) in
-        (z .2, z .3 ∙ ap (λ a. 8 * a) (ap size (one-chunk o (heads-tidy wide (left c w (Malloc x) .words) o (d .heads)) (y + nb) (free (z .0)) (free (s - nb)) (z .1) (rest .cut l .1))))
+        let z = subst (λ e. SpareAt wide (left c w (Malloc x) .control .dv) (left c w (Malloc x) .control .dvSize) (o .chunks) e)
+        (rest .spare l (⊎-elim inl (λ a. inr (dv-of y a)) v)) (d .spare) in (
+          z .2,
+          z .3 ∙ ap (λ a. 8 * a)
+              (ap size (one-chunk o (heads-tidy wide (left c w (Malloc x) .words) o (d .heads)) (y + nb) (free (z .0)) (free (s - nb)) (z .1)
+              (rest .cut l .1))),
+        )
 
-    rest-binned : 256 ≤ 8 * nb → (c .dv ≡ 8 * y → ⊥) → (left c w (Malloc x) .control .dv ≡ c .dv) × (left c w (Malloc x) .control .dvSize ≡ c .dvSize)
-    rest-binned l ne = go (h .dv) refl (n .spare) (subst (λ e. SpareAt wide (left c w (Malloc x) .control .dv) (left c w (Malloc x) .control .dvSize) (o .chunks) e) same (d .spare))
+    rest-binned : 256 ≤ 8 * nb → (c .dv ≡ 8 * y → ⊥)
+        → (left c w (Malloc x) .control .dv ≡ c .dv) × (left c w (Malloc x) .control .dvSize ≡ c .dvSize)
+    rest-binned l ne = go (h .dv) refl (n .spare)
+        (subst (λ e. SpareAt wide (left c w (Malloc x) .control .dv) (left c w (Malloc x) .control .dvSize) (o .chunks) e) same (d .spare))
       where
         other : h .dv ≡ some y → ⊥
         other q = ne (of-dv y q)
@@ -179,12 +196,14 @@ module _ (c : Control) (w : List ℕ) (h : Heap) (n : Holds wide c w h) where
         same : o .dv ≡ h .dv
         same = ⊎-elim (λ z. rest .stays z other) (λ z. rest .binned z l other) (lt-or-le s (nb + 4))
 
-        go : (e : Option ℕ) → h .dv ≡ e → SpareAt wide (c .dv) (c .dvSize) (h .chunks) e → SpareAt wide (left c w (Malloc x) .control .dv) (left c w (Malloc x) .control .dvSize) (o .chunks) e
+        go : (e : Option ℕ) → h .dv ≡ e → SpareAt wide (c .dv) (c .dvSize) (h .chunks) e
+            → SpareAt wide (left c w (Malloc x) .control .dv) (left c w (Malloc x) .control .dvSize) (o .chunks) e
             → (left c w (Malloc x) .control .dv ≡ c .dv) × (left c w (Malloc x) .control .dvSize ≡ c .dvSize)
         go none q a z = (z .0 ∙ sym (a .0), z .1 ∙ sym (a .1))
         go (some p) q a z = (
           z .2 ∙ sym (a .2),
-          z .3 ∙ ap (λ e. 8 * e) (ap size (one-chunk o (heads-tidy wide (left c w (Malloc x) .words) o (d .heads)) p (free (z .0)) (free (a .0)) (z .1)
+          z .3 ∙ ap (λ e. 8 * e)
+              (ap size (one-chunk o (heads-tidy wide (left c w (Malloc x) .words) o (d .heads)) p (free (z .0)) (free (a .0)) (z .1)
               (rest .others p (free (a .0)) (a .1) (λ y′. other (q ∙ ap some y′))))) ∙ sym (a .3),
         )
 
@@ -202,12 +221,14 @@ module _ (c : Control) (w : List ℕ) (h : Heap) (n : Holds wide c w h) where
       t = left c w (Malloc x) .control
 
       go : (o : Option Grant) → Source wide h (needWords 8 x) o → o ≡ some (b .1 .grant)
-          → (left c w (Malloc x) .control .top ≡ c .top + 8 * needWords 8 x) × (left c w (Malloc x) .control .topSize ≡ c .topSize - 8 * needWords 8 x)
+          → (left c w (Malloc x) .control .top ≡ c .top + 8 * needWords 8 x) ×
+          (left c w (Malloc x) .control .topSize ≡ c .topSize - 8 * needWords 8 x)
       go o (nowhere s l) q = some-none (sym q)
       go o (from-top s l) q =
           let e = b .1 .heap ∙ sym (ap heap-of q) in
           let d = after-held (Malloc x) in (
-            d .top-place ∙ ap (λ (z : Heap). enc wide (endOf 0 (z .chunks))) e ∙ omega (arith, end-append 0 (h .chunks) (used (needWords 8 x) ∷ []), n .top-place),
+            d .top-place ∙ ap (λ (z : Heap). enc wide (endOf 0 (z .chunks))) e
+                ∙ omega (arith, end-append 0 (h .chunks) (used (needWords 8 x) ∷ []), n .top-place),
             d .top-size ∙ ap (λ (z : Heap). 8 * z .top) e ∙ omega (arith, n .top-size),
           )
         where
@@ -215,7 +236,16 @@ module _ (c : Control) (w : List ℕ) (h : Heap) (n : Holds wide c w h) where
           heap-of none = h
           heap-of (some g) = g .heap
       go o (from-chunk k h₀ y s st fit out rest) q =
-          absurd (let z : ⊥ = omega (arith, n .top-place, b .1 .place, sym (serve-place wide k h₀ y s (needWords 8 x)) ∙ ap place-of q, starts-in′ 0 (h .chunks) y (free s) st, starts-size true 0 (h .chunks) y (free s) (tidy c w h n .chunks) st) in z)
+          absurd (let z : ⊥ = omega (
+            arith,
+            n .top-place,
+            b .1 .place,
+            sym (serve-place wide k h₀ y s (needWords 8 x))
+                ∙ ap place-of q,
+            starts-in′ 0 (h .chunks) y (free s) st,
+            starts-size true 0 (h .chunks) y (free s) (tidy c w h n .chunks) st,
+          )
+          in z)
 
 pub grants : Promised
 grants =
@@ -223,12 +253,15 @@ grants =
       enough = λ c w h k off n u. enough c w h n k off u;
       tight = λ c w h k off m n u p. omega (arith, chunk-is c w h n k off u m p, got-of c w h n k off u .tight, slack-most k);
       tight-malloc = λ c w h x off m n u p. omega (arith, chunk-is c w h n (Malloc x) off u m p, got-of c w h n (Malloc x) off u .tight);
-      tight-realloc = λ c w h b x off m n u p. omega (arith, chunk-is c w h n (Realloc b x) off u m p, got-of c w h n (Realloc b x) off u .tight);
+      tight-realloc = λ c w h b x off m n u p. omega
+          (arith, chunk-is c w h n (Realloc b x) off u m p, got-of c w h n (Realloc b x) off u .tight);
       granule = λ c w h k off n u. granule c w h n k off u;
       aligned = λ c w h al x off n u. aligned c w h n al x off u;
-      rest-split = λ c w h x y s v l. block-live c w h (v .0) x y s (v .1) (v .2) (needWords 8 x) (rest c w h (v .0) x y s (v .1) (v .2) .cut l .0);
+      rest-split = λ c w h x y s v l. block-live c w h (v .0) x y s (v .1) (v .2) (needWords 8 x)
+          (rest c w h (v .0) x y s (v .1) (v .2) .cut l .0);
       rest-free = λ c w h g x y s v l a. subst (λ (z : Heap). Starts 0 (z .chunks) (y + needWords 8 x) (free (s - needWords 8 x)))
-          (holds-unique wide (left c w (Malloc x) .control) (left c w (Malloc x) .words) (answerTo wide (length w) h (Malloc x) .heap) g (after-held c w h (v .0) (Malloc x)) a)
+          (holds-unique wide (left c w (Malloc x) .control) (left c w (Malloc x) .words) (answerTo wide (length w) h (Malloc x) .heap) g
+          (after-held c w h (v .0) (Malloc x)) a)
           (rest c w h (v .0) x y s (v .1) (v .2) .cut l .1);
       rest-stays = λ c w h x y s v l. block-live c w h (v .0) x y s (v .1) (v .2) s (rest c w h (v .0) x y s (v .1) (v .2) .whole l);
       rest-spare = λ c w h x y s v l z. rest-spare c w h (v .0) x y s (v .1) (v .2) l z;

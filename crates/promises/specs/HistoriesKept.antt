@@ -1,4 +1,5 @@
--- DEMAND 3 IS KEPT: after any history the record and the arena hold the rules' heap; a live block is a chunk in use of that heap, and what `calls` shows of
+-- DEMAND 3 IS KEPT: after any history the record and the arena hold the rules' heap; a live block is a chunk in use of that heap, and what
+-- `calls` shows of
 -- chunks in use over whole histories is said of blocks here. Assumes nothing.
 use mathlib.Core.Path.{_≡_, refl, sym, _∙_, ap, subst}
 use mathlib.Core.Bool.{true}
@@ -44,7 +45,8 @@ pub record Block (h : Heap) (off n : ℕ) : Type 0 where
   pub long : n ≡ 8 * (words - 1)
 
 module _ (s : Box) (h : Heap) (n : HeldIn wide s h) where
-  told : (off : ℕ) → callA wide (s .control) (s .words) (Usable off) .answer ≡ usableCall wide h (liveSize wide 0 (h .chunks) off) off .answer
+  told : (off : ℕ) → callA wide (s .control) (s .words) (Usable off) .answer ≡ usableCall wide h
+      (liveSize wide 0 (h .chunks) off) off .answer
   told off = calls-held wide s h n (Usable off) .answer
 
   pub block-of : (off k : ℕ) → LiveAt s off k → Block h off k
@@ -53,16 +55,20 @@ module _ (s : Box) (h : Heap) (n : HeldIn wide s h) where
       go : (z : Option ℕ) → liveSize wide 0 (h .chunks) off ≡ z → usableCall wide h z off .answer ≡ bytes k → Block h off k
       go none u y = absurd (let v : 5 ≡ 0 = ap refusal y in let z : ⊥ = omega (arith, v) in z)
       go (some t) u y =
-          let a = live-starts wide 0 (h .chunks) off t u in record { at = a .0; words = t; starts = a .1; place = a .2; long = sym (ap value y) }
+          let a = live-starts wide 0
+          (h .chunks) off t u in record { at = a .0; words = t; starts = a .1; place = a .2; long = sym (ap value y) }
 
   pub live-at : (x t : ℕ) → Starts 0 (h .chunks) x (used t) → LiveAt s (blockOf wide x) (8 * (t - 1))
-  live-at x t st = told (blockOf wide x) ∙ ap (λ z. usableCall wide h z (blockOf wide x) .answer) (starts-live wide true 0 (h .chunks) x t (heads-tidy wide (s .words) h (n .heads) .chunks) st)
+  live-at x t st = told (blockOf wide x)
+      ∙ ap (λ z. usableCall wide h z (blockOf wide x) .answer)
+      (starts-live wide true 0 (h .chunks) x t (heads-tidy wide (s .words) h (n .heads) .chunks) st)
 
   -- the block at a place that is known
   pub block-at : (x k : ℕ) → LiveAt s (blockOf wide x) k → (t : ℕ) × Starts 0 (h .chunks) x (used t) × (k ≡ 8 * (t - 1))
   block-at x k q =
       let b = block-of (blockOf wide x) k q in
-      let z : b .at ≡ x = omega (arith, b .place) in (b .words, subst (λ (y : ℕ). Starts 0 (h .chunks) y (used (b .words))) z (b .starts), b .long)
+      let z : b .at ≡ x = omega (arith, b .place) in
+      (b .words, subst (λ (y : ℕ). Starts 0 (h .chunks) y (used (b .words))) z (b .starts), b .long)
 
   live-is : (off : ℕ) → ((k : ℕ) × LiveAt s off k) ↔ Live wide (h .chunks) off
   live-is off = (
@@ -94,7 +100,8 @@ none-unsound s h n (asks k ∷ es) =
     let r = late (length (s .words)) h k (refusal (answerTo wide (length (s .words)) h k .answer)) (row-of (s .control) (s .words) h n k) in
     let q = subst (λ (a : Answer). (refusal a ≡ 1 → ⊥) × (refusal a ≡ 2 → ⊥)) (sym (f .answer)) r in
     (q .0, q .1, none-unsound (asked wide s k) (answerTo wide (length (s .words)) h k .heap) (f .held) es)
-none-unsound s h n (writes off i v ∷ es) = none-unsound (box (s .control) (writeB wide s off i v)) h (write-held wide s h n off i v .held) es
+none-unsound s h n (writes off i v ∷ es) =
+    none-unsound (box (s .control) (writeB wide s off i v)) h (write-held wide s h n off i v .held) es
 none-unsound s h n (rebuilds ∷ es) =
     let f = remade-held wide s h n in
     let q = subst (λ (a : Answer). (refusal a ≡ 1 → ⊥) × (refusal a ≡ 2 → ⊥)) (sym (f .answer))
@@ -117,27 +124,39 @@ module _ (w : List ℕ) (a : Allowed (length w)) where
   pub count : (es : List Event) → length (then w es .words) ≡ length w
   count es = goes es .count ∙ simp length-set refl
 
-  pub in-use : (es : List Event) (off : ℕ) → ((n : ℕ) × LiveAt (then w es) off n) ↔ Ledger (λ o. ⊥) es (answers wide (setUpOn wide w) es) off
+  pub in-use : (es : List Event) (off : ℕ)
+      → ((n : ℕ) × LiveAt (then w es) off n) ↔ Ledger (λ o. ⊥) es (answers wide (setUpOn wide w) es) off
   in-use es off =
       let u = live-is (then w es) (heap es) (held es) off in
       let v = use-of.in-use wide w (a .0) (a .1) (a .2) es off in ((λ z. v .0 (u .0 z)), (λ z. u .1 (v .1 z)))
 
-  pub apart : (es : List Event) (off n off′ n′ : ℕ) → LiveAt (then w es) off n → LiveAt (then w es) off′ n′ → (off ≡ off′ → ⊥) → (off + n ≤ off′) ⊎ (off′ + n′ ≤ off)
+  pub apart : (es : List Event) (off n off′ n′ : ℕ) → LiveAt (then w es) off n → LiveAt (then w es) off′ n′ → (off ≡ off′ → ⊥)
+      → (off + n ≤ off′) ⊎ (off′ + n′ ≤ off)
   apart es off n off′ n′ p q ne =
       let b = block-of (then w es) (heap es) (held es) off n p in
       let c = block-of (then w es) (heap es) (held es) off′ n′ q in
       ⊎-elim (λ u. inl (omega (arith, u, b .place, b .long, c .place))) (λ u. inr (omega (arith, u, b .place, c .long, c .place)))
-      (blocks-apart (heap es) (b .at) (b .words) (c .at) (c .words) (b .starts) (c .starts) (λ z. ne (b .place ∙ ap (blockOf wide) z ∙ sym (c .place))))
+      (blocks-apart (heap es) (b .at) (b .words) (c .at) (c .words) (b .starts) (c .starts)
+      (λ z. ne (b .place ∙ ap (blockOf wide) z ∙ sym (c .place))))
 
   pub inside : (es : List Event) (off n : ℕ) → LiveAt (then w es) off n → off + n ≤ 8 * length w
   inside es off n p =
       let b = block-of (then w es) (heap es) (held es) off n p in
-      omega (arith, b .place, b .long, starts-in′ 0 (heap es .chunks) (b .at) (used (b .words)) (b .starts), held es .heads .top .ends, count es)
+      omega (
+        arith,
+        b .place,
+        b .long,
+        starts-in′ 0 (heap es .chunks) (b .at) (used (b .words))
+            (b .starts),
+        held es .heads .top .ends,
+        count es,
+      )
 
   -- what `calls` shows of the block at x over fs
   over : (es fs : List Event) (x n : ℕ) (p : LiveAt (then w es) (blockOf wide x) n) → Unmoved wide (then w es) fs x
       → Kept wide (then w es) (heap es) x (block-at (then w es) (heap es) (held es) x n p .0) fs
-  over es fs x n p u = let b = block-at (then w es) (heap es) (held es) x n p in kept wide (then w es) (heap es) (held es) x (b .0) (b .1) fs u
+  over es fs x n p u = let b =
+      block-at (then w es) (heap es) (held es) x n p in kept wide (then w es) (heap es) (held es) x (b .0) (b .1) fs u
 
   pub stays : (es fs : List Event) (x n : ℕ) → LiveAt (then w es) (blockOf wide x) n → Unmoved wide (then w es) fs x
       → LiveAt (after wide (then w es) fs) (blockOf wide x) n
@@ -145,14 +164,17 @@ module _ (w : List ℕ) (a : Allowed (length w)) where
       let b = block-at (then w es) (heap es) (held es) x n p in
       let g = H.goes wide (then w es) (heap es) (held es) fs in
       subst (LiveAt (after wide (then w es) fs) (blockOf wide x)) (sym (b .2))
-      (live-at (after wide (then w es) fs) (heapAfter wide (length (then w es .words)) (heap es) fs) (g .held) x (b .0) (over es fs x n p u .stays))
+      (live-at (after wide (then w es) fs) (heapAfter wide (length (then w es .words)) (heap es) fs) (g .held) x (b .0)
+      (over es fs x n p u .stays))
 
-  pub keeps : (es fs : List Event) (x n i : ℕ) → LiveAt (then w es) (blockOf wide x) n → 8 * i < n → Unmoved wide (then w es) fs x → Unwritten wide fs x i
+  pub keeps : (es fs : List Event) (x n i : ℕ) → LiveAt (then w es) (blockOf wide x) n → 8 * i < n → Unmoved wide (then w es) fs x
+      → Unwritten wide fs x i
       → getD (after wide (then w es) fs .words) (x + 2 + i) 0 ≡ getD (then w es .words) (x + 2 + i) 0
   keeps es fs x n i p l u v =
       over es fs x n p u .word i (omega (arith, l, block-at (then w es) (heap es) (held es) x n p .2)) v
 
-  pub reads-back : (es : List Event) (x n i v : ℕ) → LiveAt (then w es) (blockOf wide x) n → 8 * i < n → getD (after wide (then w es) (writes (blockOf wide x) i v ∷ []) .words) (x + 2 + i) 0 ≡ v
+  pub reads-back : (es : List Event) (x n i v : ℕ) → LiveAt (then w es) (blockOf wide x) n → 8 * i < n
+      → getD (after wide (then w es) (writes (blockOf wide x) i v ∷ []) .words) (x + 2 + i) 0 ≡ v
   reads-back es x n i v p l =
       let b = block-at (then w es) (heap es) (held es) x n p in
       let s = then w es in
@@ -162,11 +184,19 @@ module _ (w : List ℕ) (a : Allowed (length w)) where
       let m = live-in wide s h (held es) off ∙ ap isSome z in
       let k = usable-in wide s h (held es) off (b .0) z in
       let y : writeB wide s off i v ≡ set (s .words) (x + 2 + i) v =
-      rw (m, lt-ltb (8 * i) (usableB wide (s .words) off) (subst (λ (q : ℕ). 8 * i < q) (sym k) (subst (λ (q : ℕ). 8 * i < q) (b .2) l)), word-of wide x) refl in
-      ap (λ q. getD q (x + 2 + i) 0) y ∙ getD-set-same (s .words) (x + 2 + i) v 0 (omega (arith, l, b .2, starts-in′ 0 (h .chunks) x (used (b .0)) (b .1), held es .heads .top .ends))
+      rw (
+        m,
+        lt-ltb (8 * i) (usableB wide (s .words) off)
+            (subst (λ (q : ℕ). 8 * i < q) (sym k) (subst (λ (q : ℕ). 8 * i < q) (b .2) l)),
+        word-of wide x,
+      ) refl in
+      ap (λ q. getD q (x + 2 + i) 0) y
+      ∙ getD-set-same (s .words) (x + 2 + i) v 0
+      (omega (arith, l, b .2, starts-in′ 0 (h .chunks) x (used (b .0)) (b .1), held es .heads .top .ends))
 
   pub fresh-record : (es : List Event) → ((off n : ℕ) → LiveAt (then w es) off n → ⊥) → then w es .control ≡ freshControl wide (length w)
   fresh-record es f = H.fresh-record wide w (a .0) (a .1) (a .2) es (none-live (then w es) (heap es) (held es) f)
 
-  pub fresh-answers : (v : List ℕ) (es fs : List Event) → length v ≡ length w → ((off n : ℕ) → LiveAt (then w es) off n → ⊥) → answers wide (then w es) fs ≡ answers wide (setUpOn wide v) fs
+  pub fresh-answers : (v : List ℕ) (es fs : List Event) → length v ≡ length w → ((off n : ℕ) → LiveAt (then w es) off n → ⊥)
+      → answers wide (then w es) fs ≡ answers wide (setUpOn wide v) fs
   fresh-answers v es fs q f = H.fresh-answers wide w (a .0) (a .1) (a .2) es (none-live (then w es) (heap es) (held es) f) v q fs

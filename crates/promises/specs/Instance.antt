@@ -1,5 +1,7 @@
--- ONE INSTANCE OF EACH PROMISE of demands 1 and 3 and of what may sway an answer, so that nothing on the page is empty: a history on 128 words with all
--- calls and an owner's write, granted and refused, and one after which all is given back. Answers and heaps are computed by the rules, which the
+-- ONE INSTANCE OF EACH PROMISE of demands 1 and 3 and of what may sway an answer, so that nothing on the page is empty: a history on 128
+-- words with all
+-- calls and an owner's write, granted and refused, and one after which all is given back. Answers and heaps are computed by the rules,
+-- which the
 -- calls obey; the promises then tell the rest. Those of demand 2, of grants and of lending are in `GrantsInstance`. Assumes nothing.
 use mathlib.Core.Path.{_≡_, refl, sym, _∙_, ap, subst}
 use mathlib.Core.Bool.{false}
@@ -16,7 +18,8 @@ use Rattle.tiling.specs.Tiling.{used, free, Starts}
 use Rattle.tiling.specs.Steps.{freshWords}
 use Rattle.rules.specs.BinOf.{huge}
 use Rattle.rules.specs.Heap.{Heap, freshHeap}
-use Rattle.rules.specs.Calls.{Call, Malloc, Free, Realloc, Memalign, Usable, Answer, granted, done, bytes, refused, bad-count, too-many, not-live, no-room}
+use Rattle.rules.specs.Calls.{Call, Malloc, Free, Realloc, Memalign, Usable, Answer, granted, done, bytes, refused, bad-count, too-many}
+use Rattle.rules.specs.Calls.{not-live, no-room}
 use Rattle.rules.specs.Calls.{bad-alignment, isIn, blockOf, liveSize, answerTo}
 use Rattle.holds.specs.Holds.{Control, Holds, freshControl}
 use Rattle.holds.specs.NoRoom.{Tight}
@@ -48,12 +51,14 @@ fives = replicate 128 5
 -- two blocks, a word written, an aligned block, a resize that moves, a look, and a refusal by every row that a history can meet
 abbrev pub morning : List Event
 morning =
-    asks (Malloc 24) ∷ writes 16 0 7 ∷ asks (Malloc 232) ∷ asks (Memalign 64 24) ∷ asks (Memalign 48 24) ∷ asks (Realloc 16 100) ∷ asks (Usable 16) ∷ asks (Usable 416) ∷ asks (Free 24) ∷ asks (Malloc 2000)
+    asks (Malloc 24) ∷ writes 16 0 7 ∷ asks (Malloc 232) ∷ asks (Memalign 64 24) ∷ asks (Memalign 48 24) ∷ asks (Realloc 16 100) ∷ asks
+    (Usable 16) ∷ asks (Usable 416) ∷ asks (Free 24) ∷ asks (Malloc 2000)
     ∷ asks (Malloc 900) ∷ []
 
 abbrev told : List Answer
 told =
-    granted 16 ∷ granted 48 ∷ granted 384 ∷ refused bad-alignment ∷ granted 416 ∷ refused (not-live 16) ∷ bytes 104 ∷ refused (not-live 24) ∷ refused too-many ∷ refused no-room ∷ []
+    granted 16 ∷ granted 48 ∷ granted 384 ∷ refused bad-alignment ∷ granted 416 ∷ refused (not-live 16) ∷ bytes 104 ∷ refused
+    (not-live 24) ∷ refused too-many ∷ refused no-room ∷ []
 
 pub answered : answers wide (setUpOn wide zeros) morning ≡ told
 unfolding needWords need roundUp treeIndex minSize huge
@@ -113,12 +118,15 @@ seven = kept .histories .reads-back zeros opening 0 24 0 7 count-128 (live openi
 
 pub kept-seven : getD (then zeros before .words) 2 0 ≡ 7
 unfolding needWords need roundUp treeIndex minSize huge
-kept-seven = kept .histories .keeps zeros written others 0 24 0 count-128 (live written 0 4 (inl (refl, refl))) (omega arith) ((λ z. absurd z), ((λ z. absurd z), tt)) tt ∙ seven
+kept-seven = kept .histories .keeps zeros written others 0 24 0 count-128 (live written 0 4 (inl (refl, refl))) (omega arith)
+    ((λ z. absurd z), ((λ z. absurd z), tt)) tt ∙ seven
 
 -- what a call answers after some events, by the rules
-pub ruled-so : (es : List Event) (k : Call) → callA wide (then zeros es .control) (then zeros es .words) k .answer ≡ answerTo wide 128 (after-all es) k .answer
+pub ruled-so : (es : List Event) (k : Call)
+    → callA wide (then zeros es .control) (then zeros es .words) k .answer ≡ answerTo wide 128 (after-all es) k .answer
 ruled-so es k =
-    kept .the-rules .obeys (then zeros es .control) (then zeros es .words) (after-all es) k (held zeros count-128 es) .0 ∙ ap (λ n. answerTo wide n (after-all es) k .answer) (count zeros count-128 es)
+    kept .the-rules .obeys (then zeros es .control) (then zeros es .words) (after-all es) k (held zeros count-128 es) .0
+    ∙ ap (λ n. answerTo wide n (after-all es) k .answer) (count zeros count-128 es)
 
 pub answer-416 : callA wide (then zeros before .control) (then zeros before .words) (Realloc 16 100) .answer ≡ granted 416
 unfolding needWords need roundUp treeIndex minSize huge
@@ -127,7 +135,8 @@ answer-416 = ruled-so before (Realloc 16 100)
 pub moved-seven : getD (callA wide (then zeros before .control) (then zeros before .words) (Realloc 16 100) .words) 52 0 ≡ 7
 unfolding needWords need roundUp treeIndex minSize huge
 moved-seven =
-    kept .histories .resize-keeps zeros before 0 50 100 24 104 0 count-128 (live before 0 4 (inl (refl, refl))) answer-416 (live through 50 14 (inr (inr (inr (inr (inl (refl, refl))))))) (omega arith) (omega arith) ∙ kept-seven
+    kept .histories .resize-keeps zeros before 0 50 100 24 104 0 count-128 (live before 0 4 (inl (refl, refl))) answer-416
+    (live through 50 14 (inr (inr (inr (inr (inl (refl, refl))))))) (omega arith) (omega arith) ∙ kept-seven
 
 -- ---- all are given back: a resize in place, another order
 
@@ -173,7 +182,8 @@ still-there = kept .histories .stays zeros written meanwhile 0 24 count-128 (liv
 pub still-seven : getD (after wide (then zeros written) meanwhile .words) 2 0 ≡ 7
 unfolding needWords need roundUp treeIndex minSize huge
 still-seven =
-    kept .histories .keeps zeros written meanwhile 0 24 0 count-128 (live written 0 4 (inl (refl, refl))) (omega arith) unmoved ((λ _ z. let b : ⊥ = omega (arith, z) in b), tt) ∙ seven
+    kept .histories .keeps zeros written meanwhile 0 24 0 count-128 (live written 0 4 (inl (refl, refl))) (omega arith) unmoved
+    ((λ _ z. let b : ⊥ = omega (arith, z) in b), tt) ∙ seven
 
 pub none-unsound : NoneUnsound (answers wide (setUpOn wide zeros) morning)
 none-unsound = kept .histories .none-unsound zeros morning count-128
@@ -246,24 +256,30 @@ pub set-up-foot : getD (setUpA wide fives .words) 119 0 ≡ 80
 set-up-foot = kept .any-input .set-up-foot fives count-128
 
 pub set-up-else : getD (setUpA wide fives .words) 50 0 ≡ 5
-set-up-else = kept .any-input .set-up-else fives 50 count-128 (λ z. let b : ⊥ = omega (arith, z) in b) (λ z. let b : ⊥ = omega (arith, z) in b)
+set-up-else = kept .any-input .set-up-else fives 50 count-128 (λ z. let b : ⊥ = omega (arith, z) in b)
+    (λ z. let b : ⊥ = omega (arith, z) in b)
 
 -- ---- what sways no answer: the words of a fresh arena, the shapes of tries
 
 agrees : Agree (freshHeap 128) (freshWords wide zeros) (freshWords wide fives)
 agrees = (
   refl,
-  λ i g. governed-same wide (freshControl wide 128) (freshControl wide 128) (freshWords wide fives) (freshWords wide zeros) (freshHeap 128) refl (fresh-start fives count-128) (fresh-start zeros count-128) i g,
+  λ i g. governed-same wide (freshControl wide 128) (freshControl wide 128) (freshWords wide fives) (freshWords wide zeros)
+      (freshHeap 128) refl (fresh-start fives count-128) (fresh-start zeros count-128) i g,
 )
 
 pub other-words : answers wide (setUpOn wide fives) morning ≡ answers wide (setUpOn wide zeros) morning
-other-words = kept .swayed .same-answers (freshControl wide 128) (freshWords wide zeros) (freshWords wide fives) (freshHeap 128) (fresh-start zeros count-128) agrees morning
+other-words = kept .swayed .same-answers (freshControl wide 128) (freshWords wide zeros) (freshWords wide fives) (freshHeap 128)
+    (fresh-start zeros count-128) agrees morning
 
 pub same-record : then fives morning .control ≡ then zeros morning .control
-same-record = kept .swayed .same-record (freshControl wide 128) (freshWords wide zeros) (freshWords wide fives) (freshHeap 128) (fresh-start zeros count-128) agrees morning
+same-record = kept .swayed .same-record (freshControl wide 128) (freshWords wide zeros) (freshWords wide fives) (freshHeap 128)
+    (fresh-start zeros count-128) agrees morning
 
-pub same-words : Agree (heapAfter wide (length (freshWords wide zeros)) (freshHeap 128) morning) (then zeros morning .words) (then fives morning .words)
-same-words = kept .swayed .same-words (freshControl wide 128) (freshWords wide zeros) (freshWords wide fives) (freshHeap 128) (fresh-start zeros count-128) agrees morning
+pub same-words : Agree (heapAfter wide (length (freshWords wide zeros)) (freshHeap 128) morning) (then zeros morning .words)
+    (then fives morning .words)
+same-words = kept .swayed .same-words (freshControl wide 128) (freshWords wide zeros) (freshWords wide fives) (freshHeap 128)
+    (fresh-start zeros count-128) agrees morning
 
 -- two large blocks on 256 words, given back in one order and in the other: one ring of each size, two shapes
 abbrev wide-zeros : List ℕ
@@ -286,7 +302,14 @@ other-shape = node 100 [] 40 (node 0 [] 34 leaf leaf) leaf
 
 -- both heaps, but for the first trie
 abbrev shaped : Tree → Heap
-shaped t = record { chunks = free 34 ∷ used 66 ∷ free 40 ∷ used 4 ∷ []; top = 102; dv = none; small = replicate 32 []; tries = t ∷ replicate 31 leaf }
+shaped t = record {
+  chunks = free 34 ∷ used 66 ∷ free 40 ∷ used 4 ∷ [];
+  top = 102;
+  dv = none;
+  small = replicate 32 [];
+  tries =
+      t ∷ replicate 31 leaf;
+}
 
 one-heap : heapAfter wide 256 (freshHeap 256) one-way ≡ shaped one-shape
 unfolding needWords need roundUp treeIndex minSize huge bit
@@ -305,6 +328,8 @@ alike = record { chunks = refl; top = refl; dv = refl; small = refl; rings = λ 
 
 pub either-way : (es : List Event) → answers wide (then wide-zeros one-way) es ≡ answers wide (then wide-zeros other-way) es
 either-way es =
-    kept .the-rules .shape-free (then wide-zeros one-way .control) (then wide-zeros other-way .control) (then wide-zeros one-way .words) (then wide-zeros other-way .words) (shaped one-shape) (shaped other-shape)
-    (subst (HeldIn wide (then wide-zeros one-way)) one-heap (held wide-zeros count-256 one-way)) (subst (HeldIn wide (then wide-zeros other-way)) other-heap (held wide-zeros count-256 other-way))
+    kept .the-rules .shape-free (then wide-zeros one-way .control) (then wide-zeros other-way .control) (then wide-zeros one-way .words)
+    (then wide-zeros other-way .words) (shaped one-shape) (shaped other-shape)
+    (subst (HeldIn wide (then wide-zeros one-way)) one-heap (held wide-zeros count-256 one-way))
+    (subst (HeldIn wide (then wide-zeros other-way)) other-heap (held wide-zeros count-256 other-way))
     (count wide-zeros count-256 one-way ∙ sym (count wide-zeros count-256 other-way)) alike es

@@ -1,7 +1,8 @@
 -- THE PROMISES: document 01's demands in their order, about the very definitions that the calls' contracts cite (`callA` and `setUpA` of
 -- `calls`, `ByValue`; `lent` and `back` of `lend`). A sentence stands above each statement; that all hold is `kept` in `AllKept`.
--- Throughout, c is the numbers of a record, w the arena's words, k a call, h the heap that both hold, es and fs lists of calls and of
--- owners' writes. Chunks are counted in words of 8 bytes: `Starts 0 (h .chunks) x (free s)` says that a free chunk of s words starts at
+-- Throughout, c is the numbers of a record, w the arena's words, k a call, h the heap that both hold, es and fs lists of calls, of owners'
+-- writes and of rebuilds. Chunks are counted in words of 8 bytes: `Starts 0 (h .chunks) x (free s)` says that a free chunk of s words
+-- starts at
 -- word x. Assumes nothing.
 use mathlib.Core.Path.{_≡_}
 use mathlib.Core.Bool.{false}
@@ -251,7 +252,7 @@ pub record Lends : Type 0 where
   pub store-writes : (c : Control) (w : List ℕ) (h : Heap) (off i v : ℕ) → Holds wide c w h
       → back wide (image c) w off (set (lent wide (image c) w off) i v) ≡ after wide (box c w) (writes off i v ∷ []) .words
 
--- DEMAND 3. From one granted set-up, after any calls and owners' writes.
+-- DEMAND 3. From one granted set-up, after any calls and owners' writes (and rebuilds of a lost record, document 02).
 pub record Histories : Type 0 where
   -- None was refused as unsound.
   pub none-unsound : (w : List ℕ) (es : List Event) → Allowed (length w) → NoneUnsound (answers wide (setUpOn wide w) es)

@@ -200,6 +200,7 @@ rebuild =
       writes-links = λ w start cs ts i m u. made w start cs ts m .reach i (λ b. u (bin-word cs i b));
       keeps = λ w start cs ts x n i m st l. made w start cs ts m .keeps x n st (x + 2 + i) (omega arith) (omega (arith, l));
       in-a-history = λ w es a. remade-held wide (then w es) (history.heap w a es) (history.held w a es) .answer;
-      stays-live = λ w es x n a p. (history.stays w a es (rebuilds ∷ []) x n p tt, λ i l. history.keeps w a es (rebuilds ∷ []) x n i p l tt tt);
+      stays-live = λ w es x n a p.
+          (history.stays w a es (rebuilds ∷ []) x n p tt, λ i l. history.keeps w a es (rebuilds ∷ []) x n i p l tt tt);
       settled = λ d d′ w v v′ start a a′ p q. one (rebuildA wide w start) d d′ v v′ a a′ p q;
     }

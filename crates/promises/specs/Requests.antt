@@ -27,7 +27,8 @@ use Rattle.batch.specs.BatchBytes.{ended, batchA}
 use Rattle.batch.specs.declared.Whole.{Whole}
 use Rattle.promises.specs.Promises.{Allowed, LiveAt, then, Agree}
 
--- ---- (xiii) rebuild after a lost record: start is the arena's address modulo 4,096, cs its chunks in address order without the top, ts the top's
+-- ---- (xiii) rebuild after a lost record: start is the arena's address modulo 4,096, cs its chunks in address order without the top, ts
+-- the top's
 -- words; what a rebuild hands back is `rebuildA` of `calls`, `ByValue`, which the contract of the call cites
 
 -- the word count and the start are set-up's, and the words meet the first two points of "Sound": the chunks cs tile 0 to the top, the top

@@ -1,4 +1,5 @@
--- A RESIZE KEEPS THE OWNER'S WORDS as far as both sizes reach, of the call: a granted resize is the rule's grant, its words are the core's, and those
+-- A RESIZE KEEPS THE OWNER'S WORDS as far as both sizes reach, of the call: a granted resize is the rule's grant, its words are the core's,
+-- and those
 -- keep the block's (`realloc-keeps`). A move copies just the old block's words, into the first of the new one. Assumes nothing.
 use mathlib.Core.Path.{_≡_, refl, sym, _∙_, ap, subst}
 use mathlib.Core.Bool.{Bool, true}
@@ -50,7 +51,9 @@ module _ (s : Box) (h : Heap) (n : HeldIn wide s h) (x t : ℕ) (st : Starts 0 (
   is-live = starts-live wide true 0 (h .chunks) x t (heads-tidy wide (s .words) h (n .heads) .chunks) st
 
   -- the core's words
-  words-are : m ≤ 8 * length (s .words) → callA wide (s .control) (s .words) (Realloc (blockOf wide x) m) .words ≡ reallocB wide (image (s .control)) (s .words) (enc wide x) (enc wide nb) .words
+  words-are : m ≤ 8 * length (s .words)
+      → callA wide (s .control) (s .words) (Realloc (blockOf wide x) m) .words ≡ reallocB wide (image (s .control)) (s .words) (enc wide x)
+      (enc wide nb) .words
   unfolding callA
   words-are fit =
       let c = s .control in
@@ -58,9 +61,12 @@ module _ (s : Box) (h : Heap) (n : HeldIn wide s h) (x t : ℕ) (st : Starts 0 (
       let r = held-image wide c w h [] n in
       let u = grantOrNo wide (reallocB wide (image c) w (chunkAt wide (blockOf wide x)) (need 8 m)) in
       ap (λ (z : Told). z .words) (let-through wide (image c) w h r (Realloc (blockOf wide x) m))
-      ∙ ap (λ b. pick b (told (refused too-many) (image c) w) (ifLive wide (image c) w (blockOf wide x) u) .words) (le-ltb (8 * length w) m fit)
-      ∙ ap (λ b. pick b u (told (refused (not-live (blockOf wide x))) (image c) w) .words) (live-is wide (image c) w h r (blockOf wide x) ∙ ap isSome is-live)
-      ∙ ap (λ z. reallocB wide (image c) w z (need 8 m) .words) (chunk-plain wide x (place-low wide (image c) w h r x t st)) ∙ ap (λ z. reallocB wide (image c) w (enc wide x) z .words) (need-words 8 m)
+      ∙ ap (λ b. pick b (told (refused too-many) (image c) w) (ifLive wide (image c) w (blockOf wide x) u) .words)
+      (le-ltb (8 * length w) m fit)
+      ∙ ap (λ b. pick b u (told (refused (not-live (blockOf wide x))) (image c) w) .words)
+      (live-is wide (image c) w h r (blockOf wide x) ∙ ap isSome is-live)
+      ∙ ap (λ z. reallocB wide (image c) w z (need 8 m) .words) (chunk-plain wide x (place-low wide (image c) w h r x t st))
+      ∙ ap (λ z. reallocB wide (image c) w (enc wide x) z .words) (need-words 8 m)
 
 -- the rule's grant, of a resize of the block of t words at x
 record Moved (s : Box) (h : Heap) (x t m y : ℕ) : Type 0 where
@@ -76,7 +82,9 @@ moved : (s : Box) (h : Heap) (n : HeldIn wide s h) (x t m y : ℕ) → Starts 0 
 moved s h n x t m y st u =
     let r = by-realloc (s .control) (s .words) h n (blockOf wide x) m (blockOf wide y) u in
     let at : r .at ≡ x = omega (arith, r .block) in
-    let long : r .words ≡ t = ap size (one-chunk h (tidy (s .control) (s .words) h n) x (used (r .words)) (used t) (subst (λ z. Starts 0 (h .chunks) z (used (r .words))) at (r .starts)) st) in
+    let long : r .words ≡ t =
+    ap size (one-chunk h (tidy (s .control) (s .words) h n) x (used (r .words)) (used t)
+    (subst (λ z. Starts 0 (h .chunks) z (used (r .words))) at (r .starts)) st) in
     let is : realloc wide h x (needWords 8 m) ≡ some (r .by .grant) = ap (λ z. realloc wide h z (needWords 8 m)) (sym at) ∙ r .by .is in
     record {
       fits = r .fits;
@@ -84,23 +92,29 @@ moved s h n x t m y st u =
       is = is;
       place = omega (arith, r .by .place);
       heap = r .by .heap;
-      outcome = r .outcome ∙ ap (λ z. movedOr6 wide h z (r .words) (realloc wide h z (needWords 8 m))) at ∙ ap (λ z. movedOr6 wide h x z (realloc wide h x (needWords 8 m))) long ∙ ap (movedOr6 wide h x t) is;
+      outcome = r .outcome ∙ ap (λ z. movedOr6 wide h z (r .words) (realloc wide h z (needWords 8 m))) at
+          ∙ ap (λ z. movedOr6 wide h x z (realloc wide h x (needWords 8 m))) long ∙ ap (movedOr6 wide h x t) is;
     }
 
-pub resize-keeps : (s : Box) (h : Heap) → HeldIn wide s h → (x y m k k′ i : ℕ) → LiveAt s (blockOf wide x) k → callA wide (s .control) (s .words) (Realloc (blockOf wide x) m) .answer ≡ granted (blockOf wide y)
+pub resize-keeps : (s : Box) (h : Heap) → HeldIn wide s h → (x y m k k′ i : ℕ) → LiveAt s (blockOf wide x) k
+    → callA wide (s .control) (s .words) (Realloc (blockOf wide x) m) .answer ≡ granted (blockOf wide y)
     → LiveAt (asked wide s (Realloc (blockOf wide x) m)) (blockOf wide y) k′ → 8 * i < k → 8 * i < k′
     → getD (callA wide (s .control) (s .words) (Realloc (blockOf wide x) m) .words) (y + 2 + i) 0 ≡ getD (s .words) (x + 2 + i) 0
 resize-keeps s h n x y m k k′ i p q p′ l l′ =
     let b = block-at s h n x k p in
     let f = calls-held wide s h n (Realloc (blockOf wide x) m) in
     let v = moved s h n x (b .0) m y (b .1) q in
-    let d = block-at (asked wide s (Realloc (blockOf wide x) m)) (answerTo wide (length (s .words)) h (Realloc (blockOf wide x) m) .heap) (f .held) y k′ p′ in
+    let d = block-at (asked wide s (Realloc (blockOf wide x) m)) (answerTo wide (length (s .words)) h (Realloc (blockOf wide x) m) .heap)
+    (f .held) y k′ p′ in
     let r = held-image wide (s .control) (s .words) h [] n in
     let g = v .grant in
-    let there = subst (λ (z : ℕ). Starts 0 (g .heap .chunks) z (used (d .0))) (sym (v .place)) (subst (λ (z : Heap). Starts 0 (z .chunks) y (used (d .0))) (v .heap) (d .1)) in
+    let there = subst (λ (z : ℕ). Starts 0 (g .heap .chunks) z (used (d .0))) (sym (v .place))
+    (subst (λ (z : Heap). Starts 0 (z .chunks) y (used (d .0))) (v .heap) (d .1)) in
     ap (λ z. getD z (y + 2 + i) 0) (words-are s h n x (b .0) (b .1) m (v .fits))
-    ∙ ap (λ z. getD (reallocB wide (image (s .control)) (s .words) (enc wide x) (enc wide (needWords 8 m)) .words) (z + 2 + i) 0) (sym (v .place))
-    ∙ realloc-keeps wide (image (s .control)) (s .words) h r x (b .0) (needWords 8 m) (b .1) (even wide (image (s .control)) (s .words) h r m (v .fits)) (least wide (image (s .control)) (s .words) h r m (v .fits))
+    ∙ ap (λ z. getD (reallocB wide (image (s .control)) (s .words) (enc wide x) (enc wide (needWords 8 m)) .words) (z + 2 + i) 0)
+    (sym (v .place))
+    ∙ realloc-keeps wide (image (s .control)) (s .words) h r x (b .0) (needWords 8 m) (b .1)
+    (even wide (image (s .control)) (s .words) h r m (v .fits)) (least wide (image (s .control)) (s .words) h r m (v .fits))
     (low wide (image (s .control)) (s .words) h r m (v .fits)) g (v .is) (d .0) there i (omega (arith, l, b .2)) (omega (arith, l′, d .2))
 
 -- ---- the words that a move copies
@@ -115,7 +129,8 @@ module _ (c : Control) (w : List ℕ) (h : Heap) (m x t y : ℕ) (r : Resizes c 
   -- the rule's words, in the numbers of the resize
   copies-is : (i : ℕ) → Copies wide h (Realloc (blockOf wide x) m) i ≡ CopiedTo (some (v .grant)) x t i
   copies-is i =
-      ap (λ z. MovedInto z (realloc wide h (placeOf wide (blockOf wide x)) (needWords 8 m)) (placeOf wide (blockOf wide x)) i) (is-live (box c w) h (r .0) x t (r .1) m)
+      ap (λ z. MovedInto z (realloc wide h (placeOf wide (blockOf wide x)) (needWords 8 m)) (placeOf wide (blockOf wide x)) i)
+      (is-live (box c w) h (r .0) x t (r .1) m)
       ∙ ap (λ z. CopiedTo (realloc wide h z (needWords 8 m)) z t i) (place-plain wide x) ∙ ap (λ z. CopiedTo z x t i) (v .is)
 
   pub copies-into : (i : ℕ) → (y ≡ x → ⊥) → Copies wide h (Realloc (blockOf wide x) m) i ↔ (y + 2 ≤ i) × (8 * i < 8 * (y + 2) + (8 * t - 8))
@@ -129,18 +144,23 @@ module _ (c : Control) (w : List ℕ) (h : Heap) (m x t y : ℕ) (r : Resizes c 
 
   pub copies-many : (y ≡ x → ⊥) → 8 * answerTo wide (length w) h (Realloc (blockOf wide x) m) .copied ≡ 8 * t - 8
   copies-many ne =
-      ap (λ (o : Outcome). 8 * o .copied) (v .outcome) ∙ ap (λ (b : Bool). 8 * pick b 0 (t - 1)) (ne-eqb (v .grant .place) x (λ z. ne (sym (v .place) ∙ z)))
+      ap (λ (o : Outcome). 8 * o .copied) (v .outcome)
+      ∙ ap (λ (b : Bool). 8 * pick b 0 (t - 1)) (ne-eqb (v .grant .place) x (λ z. ne (sym (v .place) ∙ z)))
       ∙ (let z : 8 * (t - 1) ≡ 8 * t - 8 = omega arith in z)
 
   -- a move is to a larger block
-  pub copies-what : (i : ℕ) → (y ≡ x → ⊥) → 8 * i < 8 * t - 8 → getD (callA wide c w (Realloc (blockOf wide x) m) .words) (y + 2 + i) 0 ≡ getD w (x + 2 + i) 0
+  pub copies-what : (i : ℕ) → (y ≡ x → ⊥) → 8 * i < 8 * t - 8
+      → getD (callA wide c w (Realloc (blockOf wide x) m) .words) (y + 2 + i) 0 ≡ getD w (x + 2 + i) 0
   copies-what i ne l =
       let o = answerTo wide (length w) h (Realloc (blockOf wide x) m) in
       let g = realloc-blocks wide (image c) w h (held c w h (r .0)) m (v .fits) x t (r .1) in
-      let b : Granted h (v .grant .heap) (v .grant .place) (needWords 8 m) (needWords 8 m + 4) (λ z. z ≡ x) = subst (Grants h (needWords 8 m) (needWords 8 m + 4) (λ z. z ≡ x)) (v .is) g in
-      let there = subst (λ (z : Heap). Starts 0 (z .chunks) y (used (b .words))) (sym (v .heap)) (subst (λ z. Starts 0 (v .grant .heap .chunks) z (used (b .words))) (v .place) (b .block)) in
+      let b : Granted h (v .grant .heap) (v .grant .place) (needWords 8 m) (needWords 8 m + 4) (λ z. z ≡ x) =
+      subst (Grants h (needWords 8 m) (needWords 8 m + 4) (λ z. z ≡ x)) (v .is) g in
+      let there = subst (λ (z : Heap). Starts 0 (z .chunks) y (used (b .words))) (sym (v .heap))
+      (subst (λ z. Starts 0 (v .grant .heap .chunks) z (used (b .words))) (v .place) (b .block)) in
       resize-keeps (box c w) h (r .0) x y m (8 * (t - 1)) (8 * (b .words - 1)) i (live-at (box c w) h (r .0) x t (r .1)) (r .2)
-      (live-at (asked wide (box c w) (Realloc (blockOf wide x) m)) (o .heap) (calls-held wide (box c w) h (r .0) (Realloc (blockOf wide x) m) .held) y (b .words) there)
+      (live-at (asked wide (box c w) (Realloc (blockOf wide x) m)) (o .heap)
+      (calls-held wide (box c w) h (r .0) (Realloc (blockOf wide x) m) .held) y (b .words) there)
       (omega (arith, l)) (omega (arith, l, b .large, grows))
     where
       f : Block (h .chunks) x t

@@ -1,4 +1,5 @@
--- ITS OWN PLACE, IN NUMBERS: the rule of a resize finds room where the block is exactly when `RoomAt` says so. By what stands behind the block: the
+-- ITS OWN PLACE, IN NUMBERS: the rule of a resize finds room where the block is exactly when `RoomAt` says so. By what stands behind the
+-- block: the
 -- top, a block in use, or a free chunk, and no two chunks start at one place. Assumes nothing.
 use mathlib.Core.Path.{_≡_, refl, sym, _∙_, ap, subst}
 use mathlib.Core.Bool.{true}
@@ -47,32 +48,51 @@ module _ (h : Heap) (t : TidyHeap h) (p s nb : ℕ) (xs : List Chunk) (place : p
     where
       grows : (ys : List Chunk) → h .chunks ≡ xs ++ (used s ∷ ys) → Found (growIn wide h xs p s nb ys) → RoomAt h p s nb
       grows [] q =
-          pick-case (λ o. Found o → RoomAt h p s nb) (ltb nb (s + h .top)) (λ z _. inr (inl (last q, ltb-true nb (s + h .top) z))) (λ _ u. some-none (sym (u .1)))
+          pick-case (λ o. Found o → RoomAt h p s nb) (ltb nb (s + h .top)) (λ z _. inr (inl (last q, ltb-true nb (s + h .top) z)))
+          (λ _ u. some-none (sym (u .1)))
       grows (used n ∷ ys) q = λ u. some-none (sym (u .1))
       grows (free b ∷ ys) q =
-          pick-case (λ o. Found o → RoomAt h p s nb) (leb nb (s + b)) (λ z _. inr (inr (b, next (free b) ys q, leb-true nb (s + b) z))) (λ _ u. some-none (sym (u .1)))
+          pick-case (λ o. Found o → RoomAt h p s nb) (leb nb (s + b)) (λ z _. inr (inr (b, next (free b) ys q, leb-true nb (s + b) z)))
+          (λ _ u. some-none (sym (u .1)))
 
   found-room : (ys : List Chunk) → h .chunks ≡ xs ++ (used s ∷ ys) → RoomAt h p s nb → Found (resizeHere wide h xs p s nb ys)
   found-room ys q r = pick-case Found (leb nb s) (λ _. (_, refl)) (λ z. grows ys q (leb-false nb s z) r)
     where
       -- a chunk that follows ends behind the block
       longer : (c : Chunk) (ys : List Chunk) → h .chunks ≡ xs ++ (used s ∷ c ∷ ys) → p + s ≡ endOf 0 (h .chunks) → ⊥
-      longer c ys q z = omega (arith, z, starts-in′ 0 (h .chunks) (p + s) c (next c ys q), starts-size true 0 (h .chunks) (p + s) c (t .chunks) (next c ys q))
+      longer c ys q z = omega
+          (arith, z, starts-in′ 0 (h .chunks) (p + s) c (next c ys q), starts-size true 0 (h .chunks) (p + s) c (t .chunks) (next c ys q))
 
       grows : (ys : List Chunk) → h .chunks ≡ xs ++ (used s ∷ ys) → s < nb → RoomAt h p s nb → Found (growIn wide h xs p s nb ys)
       grows ys q l (inl a) = absurd (let z : ⊥ = omega (arith, a, l) in z)
-      grows [] q l (inr (inl a)) = pick-case Found (ltb nb (s + h .top)) (λ _. (_, refl)) (λ z. absurd (let y : ⊥ = omega (arith, a .1, ltb-false nb (s + h .top) z) in y))
+      grows [] q l (inr (inl a)) =
+          pick-case Found (ltb nb (s + h .top)) (λ _. (_, refl))
+          (λ z. absurd (let y : ⊥ = omega (arith, a .1, ltb-false nb (s + h .top) z) in y))
       grows (used n ∷ ys) q l (inr (inl a)) = absurd (longer (used n) ys q (a .0))
       grows (free b ∷ ys) q l (inr (inl a)) = absurd (longer (free b) ys q (a .0))
       grows [] q l (inr (inr a)) =
-          absurd (let z : ⊥ = omega (arith, last q, starts-in′ 0 (h .chunks) (p + s) (free (a .0)) (a .1), starts-size true 0 (h .chunks) (p + s) (free (a .0)) (t .chunks) (a .1)) in z)
+          absurd (let z : ⊥ = omega (
+            arith,
+            last q,
+            starts-in′ 0 (h .chunks) (p + s) (free (a .0)) (a .1),
+            starts-size true 0 (h .chunks) (p + s) (free (a .0))
+                (t .chunks) (a .1),
+          ) in z)
       grows (used n ∷ ys) q l (inr (inr a)) = differ n (a .0) (one-chunk h t (p + s) (used n) (free (a .0)) (next (used n) ys q) (a .1))
       grows (free b ∷ ys) q l (inr (inr a)) =
           pick-case Found (leb nb (s + b)) (λ _. (_, refl))
-          (λ z. absurd (let y : ⊥ = omega (arith, a .2, leb-false nb (s + b) z, ap size (one-chunk h t (p + s) (free b) (free (a .0)) (next (free b) ys q) (a .1))) in y))
+          (λ z. absurd (let y : ⊥ =
+          omega (
+            arith,
+            a .2,
+            leb-false nb (s + b) z,
+            ap size
+                (one-chunk h t (p + s) (free b) (free (a .0)) (next (free b) ys q) (a .1)),
+          ) in y))
 
 -- of the block at p, as `find` gives it: a resize to n bytes finds room there exactly when the page says so
-pub own-place : (h : Heap) (t : TidyHeap h) (off n p s : ℕ) (b : Block (h .chunks) p s) → off ≡ blockOf wide p → Starts 0 (h .chunks) p (used s)
+pub own-place : (h : Heap) (t : TidyHeap h) (off n p s : ℕ) (b : Block (h .chunks) p s) → off ≡ blockOf wide p
+    → Starts 0 (h .chunks) p (used s)
     → ((k : Heap) × (resizeHere wide h (front (b .f)) p s (needWords 8 n) (b .f .after) ≡ some k)) ↔ OwnPlace h off n
 own-place h t off n p s b q st = (
   λ u. (p, s, st, q, room-found h t p s nb (front (b .f)) (b .place) (b .f .after) (b .whole) u),

@@ -1,4 +1,5 @@
--- WHICH ROW: on a heap that is held, the number that a call says is that of the first row of document 01's table that applies, and 0 where none
+-- WHICH ROW: on a heap that is held, the number that a call says is that of the first row of document 01's table that applies, and 0 where
+-- none
 -- does. By the rules' own tests, and the laws of "no room". Assumes nothing.
 use mathlib.Core.Path.{_≡_, refl, sym, _∙_, ap}
 use mathlib.Core.Bool.{false}
@@ -22,7 +23,8 @@ use Rattle.rules.specs.MemalignLaws.{memalign-none}
 use Rattle.rules.specs.ReallocLaws.{some-none, refused-exactly}
 use Rattle.rules.specs.BinOf.{huge}
 use Rattle.rules.specs.Lookup.{Block, block}
-use Rattle.rules.specs.Calls.{Call, Malloc, Free, Realloc, Memalign, Usable, Outcome, isIn, alignments, blockOf, placeOf, liveSize, grantOr6, movedOr6, freeCall, reallocCall, usableCall, answerTo}
+use Rattle.rules.specs.Calls.{Call, Malloc, Free, Realloc, Memalign, Usable, Outcome, isIn, alignments, blockOf, placeOf, liveSize}
+use Rattle.rules.specs.Calls.{grantOr6, movedOr6, freeCall, reallocCall, usableCall, answerTo}
 use Rattle.holds.specs.Holds.{Control, Holds}
 use Rattle.holds.specs.Ops.{state}
 use Rattle.holds.specs.Lookup.{heads-tidy}
@@ -78,11 +80,13 @@ module _ (c : Control) (w : List ℕ) (h : Heap) (n : Holds wide c w h) where
   held = held-image wide c w h [] n
 
   -- a grant, or 6
-  grant-row : (k : Call) (o : Option Grant) → (Misaligned k → ⊥) → (TooLong (length w) k → ⊥) → (Dead h k → ⊥) → (o ≡ none ↔ Full h k) → Row (length w) h k (refusal (grantOr6 wide h o .answer))
+  grant-row : (k : Call) (o : Option Grant) → (Misaligned k → ⊥) → (TooLong (length w) k → ⊥) → (Dead h k → ⊥) → (o ≡ none ↔ Full h k)
+      → Row (length w) h k (refusal (grantOr6 wide h o .answer))
   grant-row k none a b d f = sixth a b d (f .0 refl)
   grant-row k (some g) a b d f = served a b d (λ z. some-none (f .1 z))
 
-  moved-row : (k : Call) (p s : ℕ) (o : Option Grant) → Row (length w) h k (refusal (grantOr6 wide h o .answer)) → Row (length w) h k (refusal (movedOr6 wide h p s o .answer))
+  moved-row : (k : Call) (p s : ℕ) (o : Option Grant) → Row (length w) h k (refusal (grantOr6 wide h o .answer))
+      → Row (length w) h k (refusal (movedOr6 wide h p s o .answer))
   moved-row k p s none f = f
   moved-row k p s (some g) f = f
 
@@ -94,9 +98,12 @@ module _ (c : Control) (w : List ℕ) (h : Heap) (n : Holds wide c w h) where
 
   malloc-row : (x : ℕ) → Row (length w) h (Malloc x) (refusal (answerTo wide (length w) h (Malloc x) .answer))
   malloc-row x =
-      pick-case (λ (o : Outcome). Row (length w) h (Malloc x) (refusal (o .answer))) (ltb (8 * length w) x) (λ z. fourth (λ y. y) (ltb-true (8 * length w) x z))
+      pick-case (λ (o : Outcome). Row (length w) h (Malloc x) (refusal (o .answer))) (ltb (8 * length w) x)
+      (λ z. fourth (λ y. y) (ltb-true (8 * length w) x z))
       (λ z. let fit = ltb-false (8 * length w) x z in
-      grant-row (Malloc x) (malloc wide h (needWords 8 x)) (λ y. y) (few x z) (λ y. y) (tight (needWords 8 x) (even wide (image c) w h held x fit) (least wide (image c) w h held x fit) (low wide (image c) w h held x fit)))
+      grant-row (Malloc x) (malloc wide h (needWords 8 x)) (λ y. y) (few x z) (λ y. y)
+      (tight (needWords 8 x) (even wide (image c) w h held x fit) (least wide (image c) w h held x fit)
+      (low wide (image c) w h held x fit)))
 
   free-row : (off : ℕ) → Row (length w) h (Free off) (refusal (answerTo wide (length w) h (Free off) .answer))
   free-row off = go (liveSize wide 0 (h .chunks) off) refl
@@ -123,11 +130,14 @@ module _ (c : Control) (w : List ℕ) (h : Heap) (n : Holds wide c w h) where
     -- its own place does not hold it, and malloc finds none
     full-moved : x ≤ 8 * length w → realloc wide h (placeOf wide off) (needWords 8 x) ≡ none ↔ Full h (Realloc off x)
     full-moved fit =
-        let t = tight (needWords 8 x) (even wide (image c) w h held x fit) (least wide (image c) w h held x fit) (low wide (image c) w h held x fit) in
+        let t = tight (needWords 8 x) (even wide (image c) w h held x fit) (least wide (image c) w h held x fit)
+        (low wide (image c) w h held x fit) in
         let f = refused-exactly wide h p s (needWords 8 x) found in
         let g = ap (λ y. realloc wide h y (needWords 8 x)) place-is in
-        let own = own-place h (heads-tidy wide w h (n .heads)) off x p s found q st in
-        ((λ z. let y = f .0 (sym g ∙ z) in ((λ u. some-none (sym (own .1 u .1) ∙ y .0)), t .0 (y .1))), (λ z. g ∙ f .1 (shut own (z .0), t .1 (z .1))))
+        let own = own-place h (heads-tidy wide w h (n .heads)) off x p s found q st in (
+          (λ z. let y = f .0 (sym g ∙ z) in ((λ u. some-none (sym (own .1 u .1) ∙ y .0)), t .0 (y .1))),
+          (λ z. g ∙ f .1 (shut own (z .0), t .1 (z .1))),
+        )
       where
         here : Option Heap
         here = resizeHere wide h (front (found .f)) p s (needWords 8 x) (found .f .after)
@@ -141,27 +151,33 @@ module _ (c : Control) (w : List ℕ) (h : Heap) (n : Holds wide c w h) where
 
   realloc-row : (off x : ℕ) → Row (length w) h (Realloc off x) (refusal (answerTo wide (length w) h (Realloc off x) .answer))
   realloc-row off x =
-      pick-case (λ (o : Outcome). Row (length w) h (Realloc off x) (refusal (o .answer))) (ltb (8 * length w) x) (λ z. fourth (λ y. y) (ltb-true (8 * length w) x z)) (λ z. go z (liveSize wide 0 (h .chunks) off) refl)
+      pick-case (λ (o : Outcome). Row (length w) h (Realloc off x) (refusal (o .answer))) (ltb (8 * length w) x)
+      (λ z. fourth (λ y. y) (ltb-true (8 * length w) x z)) (λ z. go z (liveSize wide 0 (h .chunks) off) refl)
     where
-      go : ltb (8 * length w) x ≡ false → (z : Option ℕ) → liveSize wide 0 (h .chunks) off ≡ z → Row (length w) h (Realloc off x) (refusal (reallocCall wide h z off x .answer))
+      go : ltb (8 * length w) x ≡ false → (z : Option ℕ) → liveSize wide 0 (h .chunks) off ≡ z
+          → Row (length w) h (Realloc off x) (refusal (reallocCall wide h z off x .answer))
       go z none q = fifth (λ y. y) (few x z) q
       go z (some s) q =
           let a = live-starts wide 0 (h .chunks) off s q in
           moved-row (Realloc off x) (placeOf wide off) s (realloc wide h (placeOf wide off) (needWords 8 x))
-          (grant-row (Realloc off x) (realloc wide h (placeOf wide off) (needWords 8 x)) (λ y. y) (few x z) (λ y. some-none (sym q ∙ y)) (full-moved off x s (a .0) (a .2) (a .1) (ltb-false (8 * length w) x z)))
+          (grant-row (Realloc off x) (realloc wide h (placeOf wide off) (needWords 8 x)) (λ y. y) (few x z) (λ y. some-none (sym q ∙ y))
+          (full-moved off x s (a .0) (a .2) (a .1) (ltb-false (8 * length w) x z)))
 
   memalign-row : (al x : ℕ) → Row (length w) h (Memalign al x) (refusal (answerTo wide (length w) h (Memalign al x) .answer))
   memalign-row al x =
       pick-case (λ (o : Outcome). Row (length w) h (Memalign al x) (refusal (o .answer))) (isIn al (alignments wide))
-      (λ y. pick-case (λ (o : Outcome). Row (length w) h (Memalign al x) (refusal (o .answer))) (ltb (8 * length w) x) (λ z. fourth (λ u. false-true (sym u ∙ y)) (ltb-true (8 * length w) x z))
-      (λ z. grant-row (Memalign al x) (memalign wide h (al / 8) (needWords 8 x)) (λ u. false-true (sym u ∙ y)) (few x z) (λ u. u) (full (ltb-false (8 * length w) x z) (one-of (Good wide) al (alignments wide) y (goods wide)))))
+      (λ y. pick-case (λ (o : Outcome). Row (length w) h (Memalign al x) (refusal (o .answer))) (ltb (8 * length w) x)
+      (λ z. fourth (λ u. false-true (sym u ∙ y)) (ltb-true (8 * length w) x z))
+      (λ z. grant-row (Memalign al x) (memalign wide h (al / 8) (needWords 8 x)) (λ u. false-true (sym u ∙ y)) (few x z) (λ u. u)
+      (full (ltb-false (8 * length w) x z) (one-of (Good wide) al (alignments wide) y (goods wide)))))
       (λ y. third y)
     where
       full : x ≤ 8 * length w → Good wide al → memalign wide h (al / 8) (needWords 8 x) ≡ none ↔ Full h (Memalign al x)
       full fit g =
           let nb = needWords 8 x in
           rw (g .1, dec-enc wide (2 * g .0))
-          (let t = tight (nb + 2 * g .0 + 4) (omega (arith, even wide (image c) w h held x fit)) (omega arith) (big wide (image c) w h held x fit (g .0) (g .3)) in
+          (let t = tight (nb + 2 * g .0 + 4) (omega (arith, even wide (image c) w h held x fit)) (omega arith)
+          (big wide (image c) w h held x fit (g .0) (g .3)) in
           let y = memalign-none wide h (2 * g .0) nb in ((λ z. t .0 (y .0 z)), (λ z. y .1 (t .1 z))))
 
   pub row-of : (k : Call) → Row (length w) h k (refusal (answerTo wide (length w) h k .answer))

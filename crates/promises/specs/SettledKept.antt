@@ -1,4 +1,5 @@
--- NO SECOND OUTCOME: an answer and a record of the code can be read back from what they say, so two that say the same are one. Assumes nothing.
+-- NO SECOND OUTCOME: an answer and a record of the code can be read back from what they say, so two that say the same are one. Assumes
+-- nothing.
 use mathlib.Core.Path.{_≡_, refl, sym, _∙_, ap}
 use mathlib.Core.List.{List, [], _∷_}
 use Prim.Native.Nat.{ℕ}
@@ -86,15 +87,20 @@ withLinks c hs ts =
 
 pub control-back : (c : Control) → control (numbers c) ≡ c
 unfolding withLinks
-control-back c = ap (λ z. withLinks c z (links (offsets (c .treebins)))) (links-back (c .smallbins)) ∙ ap (withLinks c (c .smallbins)) (links-back (c .treebins))
+control-back c = ap (λ z. withLinks c z (links (offsets (c .treebins)))) (links-back (c .smallbins))
+    ∙ ap (withLinks c (c .smallbins)) (links-back (c .treebins))
 
 -- ---- outcomes
 
 pub one : (t : Ends) (d d′ : Control) (v v′ : List ℕ) (a a′ : Answer) → ends (answerOf a) (numbers d) v ≡ t
     → ends (answerOf a′) (numbers d′) v′ ≡ t → (a ≡ a′) × (d ≡ d′) × (v ≡ v′)
 one t d d′ v v′ a a′ p q =
-    let z = p ∙ sym q in
-    (sym (answer-back a) ∙ ap (λ (x : Ends). answer (x .answer)) z ∙ answer-back a′, sym (control-back d) ∙ ap (λ (x : Ends). control (x .control)) z ∙ control-back d′, ap (λ (x : Ends). x .words) z)
+    let z = p ∙ sym q in (
+      sym (answer-back a) ∙ ap (λ (x : Ends). answer (x .answer)) z ∙ answer-back a′,
+      sym (control-back d)
+          ∙ ap (λ (x : Ends). control (x .control)) z ∙ control-back d′,
+      ap (λ (x : Ends). x .words) z,
+    )
 
 pub settled : Settled
 settled =
