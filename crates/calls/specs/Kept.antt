@@ -1,5 +1,7 @@
--- A BLOCK THAT IS NOT GIVEN BACK OR MOVED, over whole histories: it stays where it is, with its size, and each of its words that its owner does not write
--- stays too. By `call-leaves` at each call that does not name it; one that names it and is refused changes nothing; an owner's write in another
+-- A BLOCK THAT IS NOT GIVEN BACK OR MOVED, over whole histories: it stays where it is, with its size, and each of its words that its owner
+-- does not write
+-- stays too. By `call-leaves` at each call that does not name it; one that names it and is refused changes nothing; an owner's write in
+-- another
 -- block lies outside this one, since chunks of one list lie apart. Assumes nothing.
 use mathlib.Core.Path.{_≡_, refl, sym, _∙_, ap, subst}
 use mathlib.Core.List.{List, [], _∷_}
@@ -47,20 +49,24 @@ Unwritten e (writes off k v ∷ es) x i = (off ≡ blockOf e x → k ≡ i → �
 Unwritten e (rebuilds ∷ es) x i = Unwritten e es x i
 
 -- two blocks in use share no word
-pub blocks-apart : (h : Heap) (x z p t : ℕ) → Starts 0 (h .chunks) x (used z) → Starts 0 (h .chunks) p (used t) → (x ≡ p → ⊥) → (x + z ≤ p) ⊎ (p + t ≤ x)
+pub blocks-apart : (h : Heap) (x z p t : ℕ) → Starts 0 (h .chunks) x (used z) → Starts 0 (h .chunks) p (used t) → (x ≡ p → ⊥)
+    → (x + z ≤ p) ⊎ (p + t ≤ x)
 blocks-apart h x z p t a b ne = ⊎-elim (λ u. absurd (ne (u .0))) (λ u. u) (starts-apart′ 0 (h .chunks) x (used z) p (used t) a b)
 
 module _ (e : Edition) (s : Box) (h : Heap) (n : HeldIn e s h) (x z : ℕ) (st : Starts 0 (h .chunks) x (used z)) where
   write-spares : (off k v : ℕ) → (off ≡ blockOf e x → ⊥) → Spares x z (s .words) (writeB e s off k v)
   write-spares off k v ne = rw (live-in e s h n off) (go (liveSize e 0 (h .chunks) off) refl)
     where
-      go : (o : Option ℕ) → liveSize e 0 (h .chunks) off ≡ o → Spares x z (s .words) (pick (isSome o) (pick (ltb (W e * k) (usableB e (s .words) off)) (set (s .words) (off / W e + k) v) (s .words)) (s .words))
+      go : (o : Option ℕ) → liveSize e 0 (h .chunks) off ≡ o
+          → Spares x z (s .words)
+          (pick (isSome o) (pick (ltb (W e * k) (usableB e (s .words) off)) (set (s .words) (off / W e + k) v) (s .words)) (s .words))
       go none u = spares-refl x z (s .words)
       go (some t) u =
           let a = live-starts e 0 (h .chunks) off t u in
           let d = blocks-apart h x z (a .0) t st (a .1) (λ q. ne (a .2 ∙ ap (blockOf e) (sym q))) in
           pick-case (Spares x z (s .words)) (ltb (W e * k) (usableB e (s .words) off))
-          (λ q. let l = below e k t (subst (λ (y : ℕ). W e * k < y) (usable-in e s h n off t u) (ltb-true (W e * k) (usableB e (s .words) off) q)) in
+          (λ q. let l = below e k t
+          (subst (λ (y : ℕ). W e * k < y) (usable-in e s h n off t u) (ltb-true (W e * k) (usableB e (s .words) off) q)) in
           subst (λ (i : ℕ). Spares x z (s .words) (set (s .words) (i + k) v)) (sym (ap (λ (y : ℕ). y / W e) (a .2) ∙ word-of e (a .0)))
           (λ i lo hi. getD-set-other (s .words) (a .0 + 2 + k) i v 0 (λ y. ⊎-elim (λ m. omega (arith, m)) (λ m. omega (arith, m, l)) d)))
           (λ q. spares-refl x z (s .words))
@@ -70,10 +76,12 @@ module _ (e : Edition) (s : Box) (h : Heap) (n : HeldIn e s h) (x z : ℕ) (st :
   write-other i k v ne =
       pick-case (λ u. getD u (x + 2 + i) 0 ≡ getD (s .words) (x + 2 + i) 0) (liveB e (s .words) (s .control .top) (blockOf e x))
       (λ _. pick-case (λ u. getD u (x + 2 + i) 0 ≡ getD (s .words) (x + 2 + i) 0) (ltb (W e * k) (usableB e (s .words) (blockOf e x)))
-      (λ _. getD-set-other (s .words) (blockOf e x / W e + k) (x + 2 + i) v 0 (λ y. ne (omega (arith, word-of e x, y)))) (λ _. refl)) (λ _. refl)
+      (λ _. getD-set-other (s .words) (blockOf e x / W e + k) (x + 2 + i) v 0 (λ y. ne (omega (arith, word-of e x, y)))) (λ _. refl))
+      (λ _. refl)
 
   -- a write of the block's owner or of another
-  write-keeps : (i off k v : ℕ) → x + 2 + i ≤ x + z → (off ≡ blockOf e x → k ≡ i → ⊥) → getD (writeB e s off k v) (x + 2 + i) 0 ≡ getD (s .words) (x + 2 + i) 0
+  write-keeps : (i off k v : ℕ) → x + 2 + i ≤ x + z → (off ≡ blockOf e x → k ≡ i → ⊥)
+      → getD (writeB e s off k v) (x + 2 + i) 0 ≡ getD (s .words) (x + 2 + i) 0
   write-keeps i off k v l ne =
       ⊎-elim (λ q. rw q (write-other i k v (ne q))) (λ q. write-spares off k v q (x + 2 + i) (omega arith) l) (same? off (blockOf e x))
 
@@ -89,7 +97,11 @@ unfolding callA
 call-left e s h n x z st c ne =
     let m = held-image e (s .control) (s .words) h [] n in
     let a = call-leaves e (image (s .control)) (s .words) h m x z st c ne in
-    record { stays = a .stays; words = subst (λ (t : Told). Spares x z (s .words) (t .words)) (sym (let-through e (image (s .control)) (s .words) h m c)) (a .words) }
+    record {
+      stays = a .stays;
+      words =
+          subst (λ (t : Told). Spares x z (s .words) (t .words)) (sym (let-through e (image (s .control)) (s .words) h m c)) (a .words);
+    }
 
 named? : (e : Edition) (c : Call) (x : ℕ) → Names e c x ⊎ (Names e c x → ⊥)
 named? e (Malloc n) x = inr (λ z. z)
@@ -107,7 +119,8 @@ call-refused e s h n x z st c not0 =
     let o = answerTo e (length (s .words)) h c in
     let t = callA e (s .control) (s .words) c in
     let q = f .left (refused-still (t .answer) not0) in
-    let m : HeldIn e s (o .heap) = subst (λ d. Holds e d (s .words) (o .heap)) (q .0) (subst (λ v. Holds e (t .control) v (o .heap)) (q .1) (f .held)) in
+    let m : HeldIn e s (o .heap) =
+    subst (λ d. Holds e d (s .words) (o .heap)) (q .0) (subst (λ v. Holds e (t .control) v (o .heap)) (q .1) (f .held)) in
     record {
       stays = subst (λ (g : Heap). Starts 0 (g .chunks) x (used z)) (holds-unique e (s .control) (s .words) h (o .heap) n m) st;
       words = subst (Spares x z (s .words)) (sym (q .1)) (spares-refl x z (s .words));
@@ -122,7 +135,8 @@ pub record Kept (e : Edition) (s : Box) (h : Heap) (x z : ℕ) (es : List Event)
   pub stays : Starts 0 (heapAfter e (length (s .words)) h es .chunks) x (used z)
   pub word : (i : ℕ) → x + 2 + i ≤ x + z → Unwritten e es x i → getD (after e s es .words) (x + 2 + i) 0 ≡ getD (s .words) (x + 2 + i) 0
 
-pub kept : (e : Edition) (s : Box) (h : Heap) → HeldIn e s h → (x z : ℕ) → Starts 0 (h .chunks) x (used z) → (es : List Event) → Unmoved e s es x
+pub kept : (e : Edition) (s : Box) (h : Heap) → HeldIn e s h → (x z : ℕ) → Starts 0 (h .chunks) x (used z) → (es : List Event)
+    → Unmoved e s es x
     → Kept e s h x z es
 kept e s h n x z st [] u = record { stays = st; word = λ i l v. refl }
 kept e s h n x z st (asks c ∷ es) u =
@@ -130,7 +144,8 @@ kept e s h n x z st (asks c ∷ es) u =
     let a = call-keeps e s h n x z st c (u .0) in
     let g = kept e (asked e s c) (answerTo e (length (s .words)) h c .heap) (f .held) x z (a .stays) es (u .1) in
     record {
-      stays = subst (λ (k : ℕ). Starts 0 (heapAfter e k (answerTo e (length (s .words)) h c .heap) es .chunks) x (used z)) (f .count) (g .stays);
+      stays = subst (λ (k : ℕ). Starts 0 (heapAfter e k (answerTo e (length (s .words)) h c .heap) es .chunks) x (used z)) (f .count)
+          (g .stays);
       word = λ i l v. g .word i l v ∙ a .words (x + 2 + i) (omega arith) l;
     }
 kept e s h n x z st (writes off k v ∷ es) u =

@@ -1,4 +1,5 @@
--- A RECORD AND ITS 72 WORDS say the same: words made of a record that fits say that record, and hold what it holds; what a call leaves in the words,
+-- A RECORD AND ITS 72 WORDS say the same: words made of a record that fits say that record, and hold what it holds; what a call leaves in
+-- the words,
 -- read back, is the record that they say, since no map that is held has more than 32 bits. Numbers that do not fit hold nothing, and so do
 -- their words. Assumes nothing.
 use mathlib.Core.Bool.{Bool, true, false, _&&_}
@@ -28,7 +29,9 @@ reads-all (x ∷ xs) r from zero l f = absurd (let z : ⊥ = omega (arith, l) in
 reads-all [] r from (suc n) l f = absurd (let z : ⊥ = omega (arith, l) in z)
 reads-all (x ∷ xs) r from (suc n) l f =
     ap (λ y. y ∷ xs) (f 0 (omega arith) ∙ ap (λ y. getD r y 0) (let z : from + 0 ≡ from = omega arith in z))
-    ∙ ap (λ z. getD r from 0 ∷ z) (reads-all xs r (from + 1) n (omega (arith, l)) (λ k u. f (suc k) (omega arith) ∙ ap (λ y. getD r y 0) (let z : from + suc k ≡ from + 1 + k = omega arith in z)))
+    ∙ ap (λ z. getD r from 0 ∷ z)
+    (reads-all xs r (from + 1) n (omega (arith, l))
+    (λ k u. f (suc k) (omega arith) ∙ ap (λ y. getD r y 0) (let z : from + suc k ≡ from + 1 + k = omega arith in z)))
 
 reads-same : (xs : List ℕ) → length xs ≡ 32 → reads xs 0 32 ≡ xs
 reads-same xs l = sym (reads-all xs xs 0 32 l (λ k u. ap (λ y. getD xs y 0) (let z : k ≡ 0 + k = omega arith in z)))
@@ -43,7 +46,13 @@ pub record Fits (c : Control) : Type 0 where
 
 pub fits-yes : (c : Control) → Fits c → fits c ≡ true
 fits-yes c f =
-    rw (eq-eqb (length (c .heads)) 32 (f .heads), eq-eqb (length (c .roots)) 32 (f .roots), lt-ltb (c .smallMap) (2 ^ 32) (f .small), lt-ltb (c .treeMap) (2 ^ 32) (f .trees)) refl
+    rw (
+      eq-eqb (length (c .heads)) 32 (f .heads),
+      eq-eqb (length (c .roots)) 32 (f .roots),
+      lt-ltb (c .smallMap) (2 ^ 32)
+          (f .small),
+      lt-ltb (c .treeMap) (2 ^ 32) (f .trees),
+    ) refl
 
 pub fits-is : (c : Control) → fits c ≡ true → Fits c
 fits-is c q =
@@ -86,17 +95,20 @@ withLinks c hs ts =
 decode-words : (c : Control) → Fits c → decode (wordsOf c) ≡ c
 unfolding decode reads withLinks
 decode-words c f =
-    ap (λ z. withLinks c z (reads (c .roots) 0 32)) (reads-same (c .heads) (f .heads)) ∙ ap (withLinks c (c .heads)) (reads-same (c .roots) (f .roots))
+    ap (λ z. withLinks c z (reads (c .roots) 0 32)) (reads-same (c .heads) (f .heads))
+    ∙ ap (withLinks c (c .heads)) (reads-same (c .roots) (f .roots))
 
 pub decode-image : (c : Control) → Fits c → decode (image c) ≡ c
 decode-image c f = ap decode (image-words c f) ∙ decode-words c f
 
 -- what is held fits
 pub held-fits : (e : Edition) (c : Control) (w : List ℕ) (h : Heap) (l : List ℕ) → Near e c w h l → Fits c
-held-fits e c w h l n = record { heads = n .small .count; roots = n .tries .count; small = n .small .marks .bound; trees = n .tries .marks .bound }
+held-fits e c w h l n =
+    record { heads = n .small .count; roots = n .tries .count; small = n .small .marks .bound; trees = n .tries .marks .bound }
 
 pub held-image : (e : Edition) (c : Control) (w : List ℕ) (h : Heap) (l : List ℕ) → Near e c w h l → Held e (image c) w h l
-held-image e c w h l n = record { image = image-length c; near = subst (λ d. Near e d w h l) (sym (decode-image c (held-fits e c w h l n))) n }
+held-image e c w h l n =
+    record { image = image-length c; near = subst (λ d. Near e d w h l) (sym (decode-image c (held-fits e c w h l n))) n }
 
 -- what does not fit holds nothing, nor do its words: no arena has no bytes
 no-length : (e : Edition) (w : List ℕ) → Sound e (decode (replicate 72 0)) w → ⊥
@@ -125,9 +137,17 @@ numbers-fit r = record { heads = refl; roots = refl; small = mod-lt (getD r 0 0)
 
 reads-part : (r : List ℕ) (k : ℕ) → k + 32 ≤ length r → reads r k 32 ≡ part k r
 reads-part r k l =
-    sym (reads-all (part k r) r k 32 (length-take 32 (drop k r) ∙ (let z : min 32 (length (drop k r)) ≡ 32 = omega (arith, length-drop k r) in z)) (λ i u. getD-take 32 (drop k r) i 0 u ∙ getD-drop k r i 0))
+    sym (reads-all (part k r) r k 32
+    (length-take 32 (drop k r) ∙ (let z : min 32 (length (drop k r)) ≡ 32 = omega (arith, length-drop k r) in z))
+    (λ i u. getD-take 32 (drop k r) i 0 u ∙ getD-drop k r i 0))
 
 pub held-read : (e : Edition) (r w : List ℕ) (h : Heap) (l : List ℕ) → Held e r w h l → numbersOf r ≡ decode r
 unfolding decode
 held-read e r w h l n =
-    rw (reads-part r 8 (omega (arith, n .image)), reads-part r 40 (omega (arith, n .image)), mod-eq-of-lt (n .near .small .marks .bound), mod-eq-of-lt (n .near .tries .marks .bound)) refl
+    rw (
+      reads-part r 8 (omega (arith, n .image)),
+      reads-part r 40 (omega (arith, n .image)),
+      mod-eq-of-lt
+          (n .near .small .marks .bound),
+      mod-eq-of-lt (n .near .tries .marks .bound),
+    ) refl

@@ -1,4 +1,5 @@
--- HOW OWNERS REALLY WRITE: word k of the part that is lent, written, and the part given back, leaves the arena that the event `writes` of a history
+-- HOW OWNERS REALLY WRITE: word k of the part that is lent, written, and the part given back, leaves the arena that the event `writes` of a
+-- history
 -- leaves. So what is shown of histories is shown of owners who write through `lend` or `store`. Both editions. Assumes nothing.
 use mathlib.Core.Path.{_≡_, refl, sym, _∙_, ap, subst}
 use mathlib.Core.Bool.{true}
@@ -48,11 +49,13 @@ module _ (e : Edition) (r w : List ℕ) (off : ℕ) where
       → ((i : ℕ) → i < a → getD t i 0 ≡ getD w i 0) → ((i : ℕ) → getD t (a + (m + i)) 0 ≡ getD w (a + (m + i)) 0) → back e r w off ys ≡ t
   back-is ys t q lt part before behind =
       list-ext 0 (back e r w off ys) t (back-length e r w ys off q ∙ sym lt)
-      (λ i _. ⊎-elim (λ u. back-before e r w ys off q i u ∙ sym (before i u)) (λ u. ⊎-elim (λ z. within i u z) (λ z. past i u z) (lt-or-le (i - a) m)) (lt-or-le i a))
+      (λ i _. ⊎-elim (λ u. back-before e r w ys off q i u ∙ sym (before i u))
+      (λ u. ⊎-elim (λ z. within i u z) (λ z. past i u z) (lt-or-le (i - a) m)) (lt-or-le i a))
     where
       within : (i : ℕ) → a ≤ i → i - a < m → getD (back e r w off ys) i 0 ≡ getD t i 0
       within i u z =
-          subst (λ j. getD (back e r w off ys) j 0 ≡ getD t j 0) (let y : a + (i - a) ≡ i = omega arith in y) (back-in e r w ys off q (i - a) z ∙ sym (part (i - a) z))
+          subst (λ j. getD (back e r w off ys) j 0 ≡ getD t j 0) (let y : a + (i - a) ≡ i = omega arith in y)
+          (back-in e r w ys off q (i - a) z ∙ sym (part (i - a) z))
 
       past : (i : ℕ) → a ≤ i → m ≤ i - a → getD (back e r w off ys) i 0 ≡ getD t i 0
       past i u z =
@@ -68,10 +71,12 @@ module _ (e : Edition) (r w : List ℕ) (off : ℕ) where
     where
       here : (i : ℕ) → i ≡ k → getD (set w (a + k) v) (a + i) 0 ≡ getD (set (lent e r w off) k v) i 0
       here i q =
-          rw q (getD-set-same w (a + k) v 0 (omega (arith, lent-in e r w off, l)) ∙ sym (getD-set-same (lent e r w off) k v 0 (omega (arith, lent-long, l))))
+          rw q (getD-set-same w (a + k) v 0 (omega (arith, lent-in e r w off, l))
+          ∙ sym (getD-set-same (lent e r w off) k v 0 (omega (arith, lent-long, l))))
 
       other : (i : ℕ) → i < m → (i ≡ k → ⊥) → getD (set w (a + k) v) (a + i) 0 ≡ getD (set (lent e r w off) k v) i 0
-      other i u q = getD-set-other w (a + k) (a + i) v 0 (λ z. q (omega (arith, z))) ∙ sym (getD-set-other (lent e r w off) k i v 0 q ∙ lent-word i u)
+      other i u q = getD-set-other w (a + k) (a + i) v 0 (λ z. q (omega (arith, z)))
+          ∙ sym (getD-set-other (lent e r w off) k i v 0 q ∙ lent-word i u)
 
   -- a word past it is not
   store-past : (k v : ℕ) → m ≤ k → back e r w off (set (lent e r w off) k v) ≡ w
@@ -108,7 +113,8 @@ store-writes e s h n off k v = rw (live-in e s h n off) (go (liveSize e 0 (h .ch
       where
         dead : Live e (h .chunks) off → ⊥
         dead u =
-            some-none (sym (ap (liveSize e 0 (h .chunks)) (u .3) ∙ starts-live e true 0 (h .chunks) (u .0) (u .1) (heads-tidy e w h (n .heads) .chunks) (u .2)) ∙ q)
+            some-none (sym (ap (liveSize e 0 (h .chunks)) (u .3)
+            ∙ starts-live e true 0 (h .chunks) (u .0) (u .1) (heads-tidy e w h (n .heads) .chunks) (u .2)) ∙ q)
     go (some t) q = rw (usable-in e s h n off t q) (⊎-elim inside past (lt-or-le k (t - 1)))
       where
         b : (p : ℕ) × Starts 0 (h .chunks) p (used t) × (off ≡ blockOf e p)
@@ -123,7 +129,8 @@ store-writes e s h n off k v = rw (live-in e s h n off) (go (liveSize e 0 (h .ch
         inside : k < t - 1 → back e r w off (set (lent e r w off) k v) ≡ pick (ltb (W e * k) (W e * (t - 1))) (set w (off / W e + k) v) w
         inside l =
             rw (lt-ltb (W e * k) (W e * (t - 1)) (scaled e k (t - 1) l))
-            (store-in e r w off k v (omega (arith, many, l)) ∙ ap (λ i. set w (i + k) v) (from ∙ sym (ap (λ y. y / W e) (b .2) ∙ word-of e (b .0))))
+            (store-in e r w off k v (omega (arith, many, l))
+            ∙ ap (λ i. set w (i + k) v) (from ∙ sym (ap (λ y. y / W e) (b .2) ∙ word-of e (b .0))))
 
         past : t - 1 ≤ k → back e r w off (set (lent e r w off) k v) ≡ pick (ltb (W e * k) (W e * (t - 1))) (set w (off / W e + k) v) w
         past l = rw (le-ltb (W e * k) (W e * (t - 1)) (scaled-le e k (t - 1) l)) (store-past e r w off k v (omega (arith, many, l)))

@@ -1,5 +1,5 @@
 -- THE HEAP and what it means that a record and an arena hold it: document 01's "Sound", sentence by sentence, with the readings in
--- READINGS.md. Places and sizes are counted in words; the record's and the arena's numbers are in bytes. Both editions.
+-- docs/DECISIONS.md. Places and sizes are counted in words; the record's and the arena's numbers are in bytes. Both editions.
 -- Assumes nothing.
 use mathlib.Core.Path.{_≡_}
 use mathlib.Core.List.{List, []}

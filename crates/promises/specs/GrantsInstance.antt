@@ -1,37 +1,36 @@
 -- ONE INSTANCE OF EACH PROMISE of demand 2, of grants, of lending and of settled outcomes, on the histories of `Instance` and three more.
 -- Assumes nothing.
-use mathlib.Core.Path.{_≡_, refl, sym, _∙_, ap, subst}
+use mathlib.Core.Path.{_≡_, refl, sym, _∙_, ap}
 use mathlib.Core.List.{List, [], _∷_}
 use mathlib.Core.Logic.{_↔_, inl, inr}
 use Prim.Native.Nat.{ℕ, _+_, _-_, _*_, _≤_, _<_, _%_}
 use native.Mathlib.Omega.{arith}
 use lib.ListN.{length, getD, set, replicate, getD-replicate}
-use Rattle.words.specs.Edition.{wide, noLink}
+use Rattle.words.specs.Edition.{wide}
 use Rattle.words.specs.Fields.{countL}
 use Rattle.index.specs.Sizes.{needWords, need, roundUp}
 use Rattle.index.specs.TreeBin.{treeIndex, minSize}
-use Rattle.tiling.specs.Tiling.{Chunk, used, free, Starts}
+use Rattle.tiling.specs.Tiling.{free, Starts}
 use Rattle.tries.specs.Bits.{bit}
 use Rattle.tries.specs.Tree.{Tree, leaf, count}
 use Rattle.rules.specs.BinOf.{huge}
 use Rattle.rules.specs.Heap.{Heap, freshHeap}
 use Rattle.rules.specs.Source.{Small}
-use Rattle.rules.specs.Calls.{Call, Malloc, Free, Realloc, Memalign, Usable, granted, bytes, answerTo}
-use Rattle.holds.specs.Holds.{Holds}
+use Rattle.rules.specs.Calls.{Malloc, Free, Realloc, Memalign, Usable, granted, bytes, answerTo}
 use Rattle.holds.specs.Governed.{Linked, GovernedIn}
 use Rattle.lend.specs.LendBytes.{lent, back}
 use Rattle.calls.specs.CallBytes.{refusal, callB}
 use Rattle.calls.specs.Record.{image}
 use Rattle.calls.specs.ByValue.{ends, callA}
 use Rattle.calls.specs.CallReach.{callVia, Copies}
-use Rattle.calls.specs.Histories.{Event, asks, writes, after, calls-held, box}
+use Rattle.calls.specs.Histories.{Event, asks, writes, after, calls-held}
 use Rattle.arena.specs.Answers.{answerOf}
 use Rattle.arena.specs.Record.{numbers}
 use Rattle.arena.specs.declared.control.Control as arena
 use Rattle.arena.specs.declared.answers.Answer as code
 use Rattle.arena.specs.declared.answers.Answer.the-variants.{Refused}
 use Rattle.arena.specs.declared.answers.Reason.the-variants.{BadCount}
-use Rattle.promises.specs.Promises.{says, refusedBy, OwnPlace, LiveAt, left, then, Serves, Resizes}
+use Rattle.promises.specs.Promises.{says, OwnPlace, LiveAt, left, then, Serves, Resizes}
 use Rattle.promises.specs.HistoriesKept.{held}
 use Rattle.promises.specs.AllKept.{kept}
 use Rattle.promises.specs.Instance.{zeros, count-128, after-all, live, ruled-so, morning, before, through, answer-416, kept-seven}
@@ -229,6 +228,29 @@ rest-binned =
     kept .grants .rest-binned (then zeros large-hole .control) (then zeros large-hole .words) (after-all large-hole) 300 0 76 serves-300
     (omega arith)
     (λ z. let b : ⊥ = omega (arith, sym z ∙ held zeros count-128 large-hole .spare .0) in b)
+
+-- ---- a resize that stays: the block of 320 bytes at 48 to 100 bytes, and to 296; the one at 16, the last, into the top
+
+pub resize-split : LiveAt (left (then zeros two .control) (then zeros two .words) (Realloc 48 100)) 48 (8 * needWords 8 100 - 8)
+unfolding needWords need roundUp treeIndex minSize huge
+resize-split =
+    kept .grants .resize-split (then zeros two .control) (then zeros two .words) (after-all two) 100 4 40 40
+    (held zeros count-128 two, inr (inl (refl, refl)), answer-48) (inl (omega arith, refl)) (omega arith)
+
+pub resize-stays : LiveAt (left (then zeros two .control) (then zeros two .words) (Realloc 48 296)) 48 312
+unfolding needWords need roundUp treeIndex minSize huge
+resize-stays =
+    kept .grants .resize-stays (then zeros two .control) (then zeros two .words) (after-all two) 296 4 40 40
+    (held zeros count-128 two, inr (inl (refl, refl)), ruled-so two (Realloc 48 296)) (inl (omega arith, refl)) (omega arith)
+
+abbrev one : List Event
+one = asks (Malloc 24) ∷ []
+
+pub resize-top : LiveAt (left (then zeros one .control) (then zeros one .words) (Realloc 16 100)) 16 (8 * needWords 8 100 - 8)
+unfolding needWords need roundUp treeIndex minSize huge
+resize-top =
+    kept .grants .resize-top (then zeros one .control) (then zeros one .words) (after-all one) 100 0 4
+    (held zeros count-128 one, inl (refl, refl), ruled-so one (Realloc 16 100)) (omega arith) (sym (held zeros count-128 one .top-place)) .0
 
 -- ---- lending: the block of 104 bytes at 416, and none at 24
 

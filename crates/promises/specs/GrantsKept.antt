@@ -3,7 +3,7 @@
 -- an aligned one (`Blocks`, `MemalignLaws`); what malloc leaves of the chunk that served it is told by `Remainder`. Assumes nothing.
 use mathlib.Core.Path.{_≡_, refl, sym, _∙_, ap, subst}
 use mathlib.Core.Bool.{true}
-use mathlib.Core.List.{List, [], _∷_, _++_}
+use mathlib.Core.List.{List, [], _∷_}
 use mathlib.Core.Option.{Option, none, some}
 use mathlib.Core.Logic.{_⊎_, inl, inr, ⊎-elim}
 use Prim.Native.Nat.{ℕ, _+_, _-_, _*_, _/_, _%_, _≤_, _<_}
@@ -14,7 +14,7 @@ use Rattle.words.specs.Logic.{lt-or-le}
 use Rattle.words.specs.Edition.{wide, dec-enc, none-free, enc}
 use Rattle.index.specs.Sizes.{needWords}
 use Rattle.index.specs.SizesLaws.{need-holds, need-words}
-use Rattle.tiling.specs.Tiling.{Chunk, used, free, size, endOf, end-append, Starts}
+use Rattle.tiling.specs.Tiling.{used, free, size, endOf, end-append, Starts}
 use Rattle.rules.specs.Heap.{Heap}
 use Rattle.rules.specs.Malloc.{Grant, malloc}
 use Rattle.rules.specs.Memalign.{memalign}
@@ -23,8 +23,8 @@ use Rattle.rules.specs.Blocks.{Granted, Grants}
 use Rattle.rules.specs.Source.{Source, nowhere, from-top, from-chunk}
 use Rattle.rules.specs.Remainder.{Left, malloc-left}
 use Rattle.rules.specs.ReallocLaws.{some-none}
-use Rattle.rules.specs.Tidy.{TidyHeap, starts-in′, starts-size, starts-even′}
-use Rattle.rules.specs.Calls.{Call, Malloc, Free, Realloc, Memalign, Usable, granted, bytes, blockOf, answerTo}
+use Rattle.rules.specs.Tidy.{starts-in′, starts-size, starts-even′}
+use Rattle.rules.specs.Calls.{Call, Malloc, Free, Realloc, Memalign, Usable, granted, blockOf, answerTo}
 use Rattle.holds.specs.Holds.{Control, Holds, SpareAt}
 use Rattle.holds.specs.Ops.{state}
 use Rattle.holds.specs.Lookup.{heads-tidy}
@@ -34,11 +34,12 @@ use Rattle.malloc.specs.MallocObeys.{serve-place}
 use Rattle.calls.specs.Record.{image}
 use Rattle.calls.specs.CallObeys.{Good, even, least, big, malloc-blocks, realloc-blocks, memalign-blocks}
 use Rattle.calls.specs.Histories.{box, calls-held}
-use Rattle.promises.specs.Promises.{says, asksFor, LiveAt, left, Serves, Grants as Promised}
+use Rattle.promises.specs.Promises.{says, asksFor, LiveAt, left, Grants as Promised}
 use Rattle.promises.specs.RoomLaws.{one-chunk}
 use Rattle.promises.specs.GrantedBy.{value, held, tidy, source, By, by-malloc, by-realloc, by-memalign, free-none, usable-none}
 use Rattle.promises.specs.TheRulesKept.{place-of}
 use Rattle.promises.specs.HistoriesKept.{live-at}
+use Rattle.promises.specs.ResizeRoom.{resize-split, resize-stays, resize-top}
 
 -- what a chunk may have beyond the need: less than 4 words, after memalign at most 4
 abbrev slack : Call → ℕ
@@ -181,7 +182,8 @@ module _ (c : Control) (w : List ℕ) (h : Heap) (n : Holds wide c w h) where
         (rest .spare l (⊎-elim inl (λ a. inr (dv-of y a)) v)) (d .spare) in (
           z .2,
           z .3 ∙ ap (λ a. 8 * a)
-              (ap size (one-chunk o (heads-tidy wide (left c w (Malloc x) .words) o (d .heads)) (y + nb) (free (z .0)) (free (s - nb)) (z .1)
+              (ap size (one-chunk o (heads-tidy wide (left c w (Malloc x) .words) o (d .heads)) (y + nb) (free (z .0)) (free (s - nb))
+                  (z .1)
               (rest .cut l .1))),
         )
 
@@ -267,4 +269,7 @@ grants =
       rest-spare = λ c w h x y s v l z. rest-spare c w h (v .0) x y s (v .1) (v .2) l z;
       rest-binned = λ c w h x y s v l ne. rest-binned c w h (v .0) x y s (v .1) (v .2) l ne;
       rest-top = λ c w h x n u. rest-top c w h n x u;
+      resize-split = λ c w h m x s t r u l. resize-split c w h m x s r t u l;
+      resize-stays = λ c w h m x s t r u l. resize-stays c w h m x s r t u l;
+      resize-top = λ c w h m x s r l q. resize-top c w h m x s r l q;
     }

@@ -34,7 +34,7 @@ use Rattle.calls.specs.ByValue.{ends, callA, setUpA}
 use Rattle.calls.specs.Histories.{Event, asks, writes, box, after, answers, heapAfter, HeldIn, setUpOn, from-set-up}
 use Rattle.calls.specs.InUse.{Ledger}
 use Rattle.calls.specs.Kept.{Unmoved}
-use Rattle.promises.specs.Promises.{says, refusedBy, Allowed, LiveAt, left, then, NoneUnsound, Agree}
+use Rattle.promises.specs.Promises.{refusedBy, Allowed, LiveAt, left, then, NoneUnsound, Agree}
 use Rattle.promises.specs.AnyInputKept.{fresh-start}
 use Rattle.promises.specs.HistoriesKept.{live-at, held, count}
 use Rattle.promises.specs.AllKept.{kept}

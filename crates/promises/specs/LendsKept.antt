@@ -1,5 +1,5 @@
 -- LENDING IS KEPT: what `lend` and `calls` show of the words of a record, said of the record. Assumes nothing.
-use mathlib.Core.Path.{_≡_, refl, sym, _∙_, ap}
+use mathlib.Core.Path.{_≡_, sym, _∙_, ap}
 use mathlib.Core.List.{List, []}
 use mathlib.Core.Logic.{_↔_}
 use Prim.Native.Nat.{ℕ, _+_, _-_, _*_, _<_}
@@ -12,7 +12,7 @@ use Rattle.rules.specs.Calls.{Usable, bytes, blockOf}
 use Rattle.holds.specs.Holds.{Control, Holds}
 use Rattle.lend.specs.LendBytes.{lent, lentFrom, lentWords}
 use Rattle.lend.specs.LendLaws.{lent-is}
-use Rattle.calls.specs.CallBytes.{refusal, callB}
+use Rattle.calls.specs.CallBytes.{refusal}
 use Rattle.calls.specs.Record.{image}
 use Rattle.calls.specs.RecordLaws.{image-length, held-image}
 use Rattle.calls.specs.ByValue.{callA}

@@ -8,6 +8,7 @@ pub mod GrantedBy
 pub mod TheRulesKept
 pub mod HistoriesKept
 pub mod ResizeKept
+pub mod ResizeRoom
 pub mod NumbersKept
 pub mod GrantsKept
 pub mod LendsKept

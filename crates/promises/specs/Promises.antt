@@ -132,6 +132,10 @@ abbrev pub Resizes : Control → List ℕ → Heap → ℕ → ℕ → ℕ → �
 Resizes c w h n x s y =
     Holds wide c w h × Starts 0 (h .chunks) x (used s) × (says c w (Realloc (blockOf wide x) n) ≡ granted (blockOf wide y))
 
+-- what the block of s words at x has to itself for a need of nb words: its own words, or these and the free chunk behind it
+abbrev pub OwnWords : Heap → ℕ → ℕ → ℕ → ℕ → Type 0
+OwnWords h x s nb t = ((nb ≤ s) × (t ≡ s)) ⊎ ((s < nb) × ((b : ℕ) × Starts 0 (h .chunks) (x + s) (free b) × (t ≡ s + b)))
+
 -- two arenas of one length agree in document 01's list of governed words
 abbrev pub Agree : Heap → List ℕ → List ℕ → Type 0
 Agree h w v = (length v ≡ length w) × ((i : ℕ) → Governed h i → getD v i 0 ≡ getD w i 0)
@@ -239,6 +243,17 @@ pub record Grants : Type 0 where
   -- From the top the rest is the top.
   pub rest-top : (c : Control) (w : List ℕ) (h : Heap) (n : ℕ) → Holds wide c w h → says c w (Malloc n) ≡ granted (c .top + 16)
       → let d = left c w (Malloc n) .control in (d .top ≡ c .top + 8 * needWords 8 n) × (d .topSize ≡ c .topSize - 8 * needWords 8 n)
+
+  -- A resize that stays: of what the block has to itself 32 bytes or more beyond the need are split off, less stays with the block.
+  pub resize-split : (c : Control) (w : List ℕ) (h : Heap) (n x s t : ℕ) → Resizes c w h n x s x → OwnWords h x s (needWords 8 n) t
+      → needWords 8 n + 4 ≤ t → LiveAt (left c w (Realloc (blockOf wide x) n)) (blockOf wide x) (8 * needWords 8 n - 8)
+  pub resize-stays : (c : Control) (w : List ℕ) (h : Heap) (n x s t : ℕ) → Resizes c w h n x s x → OwnWords h x s (needWords 8 n) t
+      → t < needWords 8 n + 4 → LiveAt (left c w (Realloc (blockOf wide x) n)) (blockOf wide x) (8 * t - 8)
+  -- Into the top it has just the need, and the rest is the top.
+  pub resize-top : (c : Control) (w : List ℕ) (h : Heap) (n x s : ℕ) → Resizes c w h n x s x → s < needWords 8 n → 8 * (x + s) ≡ c .top
+      → let d = left c w (Realloc (blockOf wide x) n) .control in LiveAt (left c w (Realloc (blockOf wide x) n)) (blockOf wide x)
+          (8 * needWords 8 n - 8)
+      × (d .top ≡ 8 * (x + needWords 8 n)) × (d .topSize ≡ c .topSize + 8 * s - 8 * needWords 8 n)
 
 -- LENDING: the words of a live block, to its owner.
 pub record Lends : Type 0 where

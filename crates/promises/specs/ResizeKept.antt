@@ -69,15 +69,15 @@ module _ (s : Box) (h : Heap) (n : HeldIn wide s h) (x t : ℕ) (st : Starts 0 (
       ∙ ap (λ z. reallocB wide (image c) w (enc wide x) z .words) (need-words 8 m)
 
 -- the rule's grant, of a resize of the block of t words at x
-record Moved (s : Box) (h : Heap) (x t m y : ℕ) : Type 0 where
-  fits : m ≤ 8 * length (s .words)
-  grant : Grant
-  is : realloc wide h x (needWords 8 m) ≡ some grant
-  place : grant .place ≡ y
-  heap : answerTo wide (length (s .words)) h (Realloc (blockOf wide x) m) .heap ≡ grant .heap
-  outcome : answerTo wide (length (s .words)) h (Realloc (blockOf wide x) m) ≡ movedOr6 wide h x t (some grant)
+pub record Moved (s : Box) (h : Heap) (x t m y : ℕ) : Type 0 where
+  pub fits : m ≤ 8 * length (s .words)
+  pub grant : Grant
+  pub is : realloc wide h x (needWords 8 m) ≡ some grant
+  pub place : grant .place ≡ y
+  pub heap : answerTo wide (length (s .words)) h (Realloc (blockOf wide x) m) .heap ≡ grant .heap
+  pub outcome : answerTo wide (length (s .words)) h (Realloc (blockOf wide x) m) ≡ movedOr6 wide h x t (some grant)
 
-moved : (s : Box) (h : Heap) (n : HeldIn wide s h) (x t m y : ℕ) → Starts 0 (h .chunks) x (used t)
+pub moved : (s : Box) (h : Heap) (n : HeldIn wide s h) (x t m y : ℕ) → Starts 0 (h .chunks) x (used t)
     → says (s .control) (s .words) (Realloc (blockOf wide x) m) ≡ granted (blockOf wide y) → Moved s h x t m y
 moved s h n x t m y st u =
     let r = by-realloc (s .control) (s .words) h n (blockOf wide x) m (blockOf wide y) u in

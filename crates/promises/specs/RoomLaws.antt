@@ -4,9 +4,9 @@
 use mathlib.Core.Path.{_≡_, refl, sym, _∙_, ap, subst}
 use mathlib.Core.Bool.{true}
 use mathlib.Core.List.{List, [], _∷_, _++_}
-use mathlib.Core.Option.{Option, none, some}
+use mathlib.Core.Option.{Option, some}
 use mathlib.Core.Logic.{_↔_, inl, inr, ⊎-elim}
-use Prim.Native.Nat.{ℕ, _+_, _≤_, _<_}
+use Prim.Native.Nat.{ℕ, _+_, _<_}
 use native.Mathlib.Omega.{arith}
 use lib.Dec.{leb, ltb}
 use borrow.Author.Tests.{leb-true, leb-false, ltb-true, ltb-false}
@@ -35,15 +35,15 @@ module _ (h : Heap) (t : TidyHeap h) (p s nb : ℕ) (xs : List Chunk) (place : p
   Found o = (k : Heap) × (o ≡ some k)
 
   -- what follows the block starts where it ends
-  next : (c : Chunk) (ys : List Chunk) → h .chunks ≡ xs ++ (used s ∷ c ∷ ys) → Starts 0 (h .chunks) (p + s) c
+  pub next : (c : Chunk) (ys : List Chunk) → h .chunks ≡ xs ++ (used s ∷ c ∷ ys) → Starts 0 (h .chunks) (p + s) c
   next c ys q =
       subst (λ z. Starts 0 z (p + s) c) (sym q)
       (starts-right 0 xs (used s ∷ c ∷ ys) (p + s) c (inr (inl (ap (λ a. a + s) place, refl))))
 
-  last : h .chunks ≡ xs ++ (used s ∷ []) → p + s ≡ endOf 0 (h .chunks)
+  pub last : h .chunks ≡ xs ++ (used s ∷ []) → p + s ≡ endOf 0 (h .chunks)
   last q = ap (λ a. a + s) place ∙ sym (ap (endOf 0) q ∙ end-append 0 xs (used s ∷ []))
 
-  room-found : (ys : List Chunk) → h .chunks ≡ xs ++ (used s ∷ ys) → Found (resizeHere wide h xs p s nb ys) → RoomAt h p s nb
+  pub room-found : (ys : List Chunk) → h .chunks ≡ xs ++ (used s ∷ ys) → Found (resizeHere wide h xs p s nb ys) → RoomAt h p s nb
   room-found ys q = pick-case (λ o. Found o → RoomAt h p s nb) (leb nb s) (λ z _. inl (leb-true nb s z)) (λ _. grows ys q)
     where
       grows : (ys : List Chunk) → h .chunks ≡ xs ++ (used s ∷ ys) → Found (growIn wide h xs p s nb ys) → RoomAt h p s nb

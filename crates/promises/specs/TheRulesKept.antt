@@ -138,7 +138,7 @@ module _ (c : Control) (w : List ℕ) (h : Heap) (n : Holds wide c w h) where
   -- ---- its own place first
 
   module _ (off x p s : ℕ) (q : off ≡ blockOf wide p) (st : Starts 0 (h .chunks) p (used s)) where
-    abbrev here : Option Heap
+    abbrev pub here : Option Heap
     here = resizeHere wide h (front (found c w h n off x s p q st .f)) p s (needWords 8 x) (found c w h n off x s p q st .f .after)
 
     -- the block stays: the rule grants its own place
@@ -154,7 +154,7 @@ module _ (c : Control) (w : List ℕ) (h : Heap) (n : Holds wide c w h) where
         ∙ ap (λ o. reallocCall wide h o off x .answer) z ∙ ap (λ o. movedOr6 wide h (placeOf wide off) s o .answer) r ∙ ap granted (sym q)
 
     -- a grant of its own place is no move
-    no-move : x ≤ 8 * length w → (g : Grant) → realloc wide h p (needWords 8 x) ≡ some g → g .place ≡ p → (o : Option Heap) → here ≡ o
+    pub no-move : x ≤ 8 * length w → (g : Grant) → realloc wide h p (needWords 8 x) ≡ some g → g .place ≡ p → (o : Option Heap) → here ≡ o
         → (k : Heap) × (here ≡ some k)
     no-move l g r z (some k) y = (k, y)
     no-move l g r z none y =
