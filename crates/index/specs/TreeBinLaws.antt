@@ -1,22 +1,21 @@
--- The laws of `TreeBin`: an index is its range of sizes, and a larger size has no smaller index; the rule of the code, by the leading zeros of
--- size / 256, gives that index; the way down a tree reads the digits of a size one after the other. In plain arithmetic, for every number B
+-- The laws of `TreeBin`: an index is its range of sizes, and a larger size has no smaller index; it is told by the highest set bit of
+-- size / 256 and the bit below it; the way down a tree reads the digits of a size one after the other. In plain arithmetic, for every number B
 -- of bits of a word. The six sizes of the document stand in one table that is computed. Assumes nothing.
 use mathlib.Core.Path.{_≡_, refl, sym, ap, ap₂, _∙_, subst}
 use mathlib.Core.Logic.{_≢_, _↔_, ⊎-elim}
 use mathlib.Core.Bool.{Bool, true}
 use mathlib.Core.List.{List, [], _∷_}
 use Prim.Native.Nat.{ℕ, zero, suc, _+_, _-_, _*_, _/_, _%_, _^_, _≤_, _<_, zero-le}
-use native.Mathlib.Nat.{one-mul, add-mul, le-of-suc-le-suc, le-of-eq, suc-mul, add-suc, le-trans, le-refl, lt-of-le-of-lt, not-suc-le-zero, le-antisymm, pow-suc, div-mul-le-self, lt-div-mul-add, div-lt-iff-lt-mul, le-div-iff-mul-le, mul-assoc, mul-lt-mul-of-pos-right, add-mod, mul-mod-left, mul-div-mul-right}
+use native.Mathlib.Nat.{one-mul, add-mul, le-of-eq, suc-mul, add-suc, le-trans, le-refl, not-suc-le-zero, le-antisymm, pow-suc, div-mul-le-self, lt-div-mul-add, div-lt-iff-lt-mul, le-div-iff-mul-le, mul-assoc, mul-lt-mul-of-pos-right, add-mod, mul-mod-left, mul-div-mul-right}
 use native.Mathlib.Decide.{le-ind, ℕ-discrete}
 use native.Mathlib.Omega.{arith}
 use lib.Dec.{leb, eqb}
 use borrow.Author.Tests.{leb-true, leb-false, ne-eqb}
-use lib.Pow.{pow-pos, pow-mono, pow-add, field, shl-lt, shl-exact}
+use lib.Pow.{pow-pos, pow-add, field, shl-lt, shl-exact}
 use lib.Bits.{bitAnd, bitOr, or-shifted}
-use lib.Count.{leadingZeros, leading-top}
 use Rattle.words.specs.Logic.{pick, pick-case, le-or-lt}
 use Rattle.index.specs.Bit.{bit}
-use Rattle.index.specs.Words.{one-shl, and-one, pow-lt-cancel}
+use Rattle.index.specs.Words.{one-shl, and-one}
 use Rattle.index.specs.Table.{right}
 use Rattle.index.specs.TreeBin.{minSize, reach, treeIndex, InBin, leftShift, keyAt, side}
 
@@ -132,7 +131,7 @@ bin-order s t h = ⊎-elim (λ l. absurd (omega (arith, tree-mono l))) (λ l. l)
 pub tree-lt : (s : ℕ) → treeIndex s < 32
 tree-lt s = omega (arith, tree-in s .last)
 
--- ---- the rule of the code: by the highest set bit k of size / 256, and the bit below it
+-- ---- by the highest set bit k of size / 256, and the bit below it
 
 pub tree-rule : (k s : ℕ) → k ≤ 15 → 2 ^ k ≤ s / 256 → s / 256 < 2 ^ suc k → treeIndex s ≡ 2 * k + s / 2 ^ (k + 7) % 2
 unfolding minSize
@@ -161,31 +160,6 @@ tree-small s h = tree-is (record { last = zero-le; low = λ z. absurd (omega ari
 pub tree-huge : (s : ℕ) → 65535 < s / 256 → treeIndex s ≡ 31
 unfolding minSize
 tree-huge s h = tree-is (record { last = le-refl 31; low = λ z. omega arith; high = λ z. absurd (omega arith) })
-
--- where that bit is, by the leading zeros of a word of B bits
-pub record TopPlace (B x : ℕ) : Type 0 where
-  pub some : leadingZeros B x ≤ B - 1
-  pub small : B - 1 - leadingZeros B x ≤ 15
-  pub low : 2 ^ (B - 1 - leadingZeros B x) ≤ x
-  pub high : x < 2 ^ suc (B - 1 - leadingZeros B x)
-
-pub top-place : (B x : ℕ) → 16 ≤ B → x ≢ 0 → x ≤ 65535 → TopPlace B x
-top-place B x b f h =
-    let p : 2 ^ 16 ≤ 2 ^ B = pow-mono b in
-    let t = leading-top B x (omega arith) (omega arith) in
-    let j : ℕ = t .0 in
-    let is : B - 1 - leadingZeros B x ≡ j = omega (arith, t .1) in
-    record {
-      some = omega (arith, t .1);
-      small = le-trans (le-of-eq is) (le-of-suc-le-suc (pow-lt-cancel {a = j} {b = 16} (lt-of-le-of-lt (t .2) (omega arith))));
-      low = subst (λ (k : ℕ). 2 ^ k ≤ x) (sym is) (t .2);
-      high = subst (λ (k : ℕ). x < 2 ^ suc k) (sym is) (t .3);
-    }
-
--- `2 * k + (size >> (k + 7) & 1)`, at the place k of that bit
-pub tree-code : (B s : ℕ) → TopPlace B (s / 256)
-    → 2 * (B - 1 - leadingZeros B (s / 256)) + s / 2 ^ (B - 1 - leadingZeros B (s / 256) + 7) % 2 ≡ treeIndex s
-tree-code B s t = sym (tree-rule (B - 1 - leadingZeros B (s / 256)) s (t .small) (t .low) (t .high))
 
 -- `(1 << (i / 2 + 8)) | ((i & 1) << (i / 2 + 7))`
 pub min-word : (w i : ℕ) → i / 2 + 8 < w → bitOr ((1 * 2 ^ (i / 2 + 8)) % 2 ^ w) ((bitAnd i 1 * 2 ^ (i / 2 + 7)) % 2 ^ w) ≡ minSize i
