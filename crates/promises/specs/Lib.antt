@@ -15,6 +15,8 @@ pub mod SwayedKept
 pub mod SettledKept
 pub mod RebuildKept
 pub mod BatchKept
+pub mod GivenBack
+pub mod FitKept
 pub mod AllKept
 pub mod Instance
 pub mod GrantsInstance

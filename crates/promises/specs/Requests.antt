@@ -9,23 +9,24 @@ use lib.Dec.{eqb}
 use lib.ListN.{length, getD}
 use Rattle.words.specs.Logic.{pick}
 use Rattle.words.specs.Edition.{wide, noLink}
+use Rattle.index.specs.Sizes.{needWords}
 use Rattle.tiling.specs.Tiling.{Chunk, used, free, Heads, Starts}
 use Rattle.rules.specs.Heap.{Heap, freshHeap}
-use Rattle.rules.specs.Calls.{Call, Malloc, Free, Realloc, Memalign, Answer, granted, done, bytes, refused, blockOf}
+use Rattle.rules.specs.Calls.{Call, Malloc, Free, Realloc, Memalign, Answer, granted, done, bytes, refused, isIn, blockOf}
 use Rattle.holds.specs.Holds.{Control, Holds, Sound}
-use Rattle.holds.specs.Governed.{Governed}
+use Rattle.holds.specs.Governed.{Governed, Tiled}
 use Rattle.rebuild.specs.CrateWay.{takes, gives}
 use Rattle.calls.specs.CallBytes.{refusal}
 use Rattle.calls.specs.Record.{emptyControl}
 use Rattle.calls.specs.ByValue.{ends, callA, rebuildA}
-use Rattle.calls.specs.Histories.{Box, box, Event, asks, remadeBox, after, heapAfter, setUpOn}
+use Rattle.calls.specs.Histories.{Box, box, Event, asks, remadeBox, after, answers, heapAfter, setUpOn}
 use Rattle.arena.specs.Answers.{answerOf}
 use Rattle.arena.specs.Record.{numbers}
 use Rattle.arena.specs.declared.answers.Answer as code
 use Rattle.arena.specs.declared.control.Control as arena
 use Rattle.batch.specs.BatchBytes.{ended, batchA}
 use Rattle.batch.specs.declared.Whole.{Whole}
-use Rattle.promises.specs.Promises.{Allowed, LiveAt, then, Agree}
+use Rattle.promises.specs.Promises.{says, Allowed, LiveAt, then, Serves, Agree}
 
 -- ---- (xiii) rebuild after a lost record: start is the arena's address modulo 4,096, cs its chunks in address order without the top, ts the top's
 -- words; what a rebuild hands back is `rebuildA` of `calls`, `ByValue`, which the contract of the call cites
@@ -182,6 +183,42 @@ pub record Batch : Type 0 where
       → ended (x .refusal) (numbers (x .control)) v ys ≡ batchA wide c w cs xs
       → ended (x′ .refusal) (numbers (x′ .control)) v′ ys′ ≡ batchA wide c w cs xs
       → (x ≡ x′) × (v ≡ v′) × (ys ≡ ys′)
+
+-- ---- (vii) a stronger word on fit and order: h is the heap that c and w hold
+
+-- "tree chunk": the free chunk of t words at y has 256 bytes or more and is not the spare one, `dv`
+abbrev pub TreeChunk : Control → Heap → ℕ → ℕ → Type 0
+TreeChunk c h y t = Starts 0 (h .chunks) y (free t) × (256 ≤ 8 * t) × (c .dv ≡ 8 * y → ⊥)
+
+-- a list of offsets, given back one after the other
+abbrev pub givesBack : List ℕ → List Event
+givesBack [] = []
+givesBack (off ∷ offs) = asks (Free off) ∷ givesBack offs
+
+-- Two boxes have the same chunks and the same top, whatever heaps they hold, and agree word for word in the heads (the top's too), the feet
+-- of free chunks and the foot word.
+abbrev pub SameChunks : Box → Box → Type 0
+SameChunks s t =
+    (g g′ : Heap) → Holds wide (s .control) (s .words) g → Holds wide (t .control) (t .words) g′
+    → (g .chunks ≡ g′ .chunks) × (g .top ≡ g′ .top) × ((i : ℕ) → Tiled g i → getD (s .words) i 0 ≡ getD (t .words) i 0)
+
+pub record Fit : Type 0 where
+  -- A large request served from a tree, the chunk of s words at x, gets one such that no smaller tree chunk holds the need.
+  pub best-fit : (c : Control) (w : List ℕ) (h : Heap) (n x s : ℕ) → 256 ≤ 8 * needWords 8 n → Serves c w h n x s → (c .dv ≡ 8 * x → ⊥)
+      → (y t : ℕ) → TreeChunk c h y t → needWords 8 n ≤ t → s ≤ t
+  -- It gets `dv` exactly when it isn't above the arena's bytes, `dv` holds it, and no tree chunk that holds it is strictly smaller than `dv`.
+  pub dv-exactly : (c : Control) (w : List ℕ) (h : Heap) (n : ℕ) → Holds wide c w h → 256 ≤ 8 * needWords 8 n
+      → says c w (Malloc n) ≡ granted (c .dv + 16)
+      ↔ (n ≤ 8 * length w) × (8 * needWords 8 n ≤ c .dvSize)
+      × ((y t : ℕ) → TreeChunk c h y t → needWords 8 n ≤ t → 8 * t < c .dvSize → ⊥)
+  -- Two different live blocks, given back in either order: both calls are done, and what stands then are the same chunks, heads and feet.
+  pub either-order : (c : Control) (w : List ℕ) (h : Heap) (off m off′ m′ : ℕ) → Holds wide c w h → LiveAt (box c w) off m
+      → LiveAt (box c w) off′ m′ → (off ≡ off′ → ⊥)
+      → (answers wide (box c w) (givesBack (off ∷ off′ ∷ [])) ≡ done ∷ done ∷ [])
+      × SameChunks (after wide (box c w) (givesBack (off ∷ off′ ∷ []))) (after wide (box c w) (givesBack (off′ ∷ off ∷ [])))
+  -- So do any two lists of the same offsets, in whatever order, those that are no live block's (any more) refused.
+  pub any-order : (c : Control) (w : List ℕ) (h : Heap) (offs offs′ : List ℕ) → Holds wide c w h → ((x : ℕ) → isIn x offs ≡ isIn x offs′)
+      → SameChunks (after wide (box c w) (givesBack offs)) (after wide (box c w) (givesBack offs′))
 
 -- ALL OF THEM.
 pub record Requests : Type 0 where
