@@ -35,7 +35,8 @@ use Rattle.malloc.specs.MallocObeys.{serve-place}
 use Rattle.calls.specs.Record.{image}
 use Rattle.calls.specs.CallObeys.{low}
 use Rattle.promises.specs.Promises.{says, Serves}
-use Rattle.promises.specs.Requests.{TreeChunk}
+use Rattle.promises.specs.Requests.{TreeChunk, Fit}
+use Rattle.promises.specs.OrderKept.{either-order, any-order}
 use Rattle.promises.specs.RoomLaws.{one-chunk}
 use Rattle.promises.specs.GrantedBy.{By, answer, held, tidy, by-malloc}
 use Rattle.promises.specs.TheRulesKept.{place-of}
@@ -191,3 +192,14 @@ module _ (c : Control) (w : List ℕ) (h : Heap) (n : Holds wide c w h) where
           (let z : 8 * k .size < c .dvSize = omega (arith, s, dv-bytes) in z))
       go (by-dv d q a e g r p) = told g r ∙ ap granted (let z : 8 * (g .place + 2) ≡ c .dv + 16 = omega (arith, p, of-dv c w h n d q) in z)
       go (by-top a f) = absurd (let z : ⊥ = omega (arith, a, fit, dv-bytes) in z)
+
+-- ---- all of it
+
+pub fit : Fit
+fit =
+    record {
+      best-fit = λ c w h x y s lo v nd z t tc l. best-fit c w h (v .0) x y s lo (v .1) (v .2) nd z t tc l;
+      dv-exactly = λ c w h x n lo. (dv-forth c w h n x lo, dv-back c w h n x lo);
+      either-order = either-order;
+      any-order = λ c w h offs offs′ n q. any-order c w h n offs offs′ q;
+    }

@@ -16,6 +16,7 @@ pub mod SettledKept
 pub mod RebuildKept
 pub mod BatchKept
 pub mod GivenBack
+pub mod OrderKept
 pub mod FitKept
 pub mod AllKept
 pub mod Instance

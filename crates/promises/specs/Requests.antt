@@ -224,3 +224,4 @@ pub record Fit : Type 0 where
 pub record Requests : Type 0 where
   pub rebuild : Rebuild
   pub batch : Batch
+  pub fit : Fit
