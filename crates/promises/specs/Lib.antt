@@ -17,6 +17,7 @@ pub mod RebuildKept
 pub mod BatchKept
 pub mod GivenBack
 pub mod OrderKept
+pub mod SmallFit
 pub mod FitKept
 pub mod AllKept
 pub mod Instance
