@@ -10,11 +10,14 @@ use lib.ListN.{length, getD}
 use Rattle.words.specs.Logic.{pick}
 use Rattle.words.specs.Edition.{wide, noLink}
 use Rattle.index.specs.Sizes.{needWords}
+use Rattle.index.specs.TreeBin.{treeIndex}
+use Rattle.tries.specs.Tree.{leaf}
 use Rattle.tiling.specs.Tiling.{Chunk, used, free, Heads, Starts}
 use Rattle.rules.specs.Heap.{Heap, freshHeap}
 use Rattle.rules.specs.Calls.{Call, Malloc, Free, Realloc, Memalign, Answer, granted, done, bytes, refused, isIn, blockOf}
 use Rattle.holds.specs.Holds.{Control, Holds, Sound}
 use Rattle.holds.specs.Governed.{Governed, Tiled}
+use Rattle.holds.specs.Rings.{ringOf}
 use Rattle.rebuild.specs.CrateWay.{takes, gives}
 use Rattle.calls.specs.CallBytes.{refusal}
 use Rattle.calls.specs.Record.{emptyControl}
@@ -190,6 +193,10 @@ pub record Batch : Type 0 where
 abbrev pub TreeChunk : Control → Heap → ℕ → ℕ → Type 0
 TreeChunk c h y t = Starts 0 (h .chunks) y (free t) × (256 ≤ 8 * t) × (c .dv ≡ 8 * y → ⊥)
 
+-- the small bins from i on, up to but not j, are empty; `h .small` at k lists the chunks of k words in their bin, the newest first
+abbrev pub Empty : Heap → ℕ → ℕ → Type 0
+Empty h i j = (k : ℕ) → i ≤ k → k < j → getD (h .small) k [] ≡ []
+
 -- a list of offsets, given back one after the other
 abbrev pub givesBack : List ℕ → List Event
 givesBack [] = []
@@ -211,6 +218,23 @@ pub record Fit : Type 0 where
       → says c w (Malloc n) ≡ granted (c .dv + 16)
       ↔ (n ≤ 8 * length w) × (8 * needWords 8 n ≤ c .dvSize)
       × ((y t : ℕ) → TreeChunk c h y t → needWords 8 n ≤ t → 8 * t < c .dvSize → ⊥)
+  -- Of several tree chunks of one size a request, large or small, gets the oldest: `ringOf s` lists a tree's chunks of s words as they came.
+  pub oldest : (c : Control) (w : List ℕ) (h : Heap) (n x s : ℕ) → Serves c w h n x s → TreeChunk c h x s
+      → (ps : List ℕ) × (ringOf s (getD (h .tries) (treeIndex (8 * s)) leaf) ≡ x ∷ ps)
+  -- A small request gets the newest chunk of its own size,
+  pub small-own : (c : Control) (w : List ℕ) (h : Heap) (n x : ℕ) (xs : List ℕ) → Holds wide c w h → 8 * needWords 8 n < 256
+      → n ≤ 8 * length w → getD (h .small) (needWords 8 n) [] ≡ x ∷ xs → says c w (Malloc n) ≡ granted (blockOf wide x)
+  -- else `dv`, if that holds it,
+  pub small-dv : (c : Control) (w : List ℕ) (h : Heap) (n : ℕ) → Holds wide c w h → 8 * needWords 8 n < 256
+      → n ≤ 8 * length w → getD (h .small) (needWords 8 n) [] ≡ [] → 8 * needWords 8 n ≤ c .dvSize → says c w (Malloc n) ≡ granted (c .dv + 16)
+  -- else the newest of the smallest fuller bin,
+  pub small-fuller : (c : Control) (w : List ℕ) (h : Heap) (n j x : ℕ) (xs : List ℕ) → Holds wide c w h → 8 * needWords 8 n < 256
+      → n ≤ 8 * length w → c .dvSize < 8 * needWords 8 n → needWords 8 n < j → j < 32 → Empty h (needWords 8 n) j
+      → getD (h .small) j [] ≡ x ∷ xs → says c w (Malloc n) ≡ granted (blockOf wide x)
+  -- else, if there is a tree chunk, the smallest. (Else the top or 6, by `bins-first` and row 6 of document 01's table.)
+  pub small-tree : (c : Control) (w : List ℕ) (h : Heap) (n y t : ℕ) → Holds wide c w h → 8 * needWords 8 n < 256
+      → n ≤ 8 * length w → c .dvSize < 8 * needWords 8 n → Empty h (needWords 8 n) 32 → TreeChunk c h y t
+      → (x : ℕ) × (s : ℕ) × TreeChunk c h x s × (says c w (Malloc n) ≡ granted (blockOf wide x)) × ((z u : ℕ) → TreeChunk c h z u → s ≤ u)
   -- Two different live blocks, given back in either order: both calls are done, and what stands then are the same chunks, heads and feet.
   pub either-order : (c : Control) (w : List ℕ) (h : Heap) (off m off′ m′ : ℕ) → Holds wide c w h → LiveAt (box c w) off m
       → LiveAt (box c w) off′ m′ → (off ≡ off′ → ⊥)

@@ -28,11 +28,8 @@ use Rattle.holds.specs.FirstBin.{first-is}
 use Rattle.holds.specs.Newest.{first-starts}
 use Rattle.holds.specs.BestFit.{Fits, Misses, small-find}
 use Rattle.malloc.specs.MallocObeys.{serve-place}
+use Rattle.promises.specs.Requests.{Empty}
 use Rattle.promises.specs.TheRulesKept.{place-of}
-
--- the small bins from i on, up to but not j, are empty
-abbrev pub Empty : Heap → ℕ → ℕ → Type 0
-Empty h i j = (k : ℕ) → i ≤ k → k < j → getD (h .small) k [] ≡ []
 
 -- the place p is granted
 abbrev pub At : Option Grant → ℕ → Type 0
