@@ -24,3 +24,4 @@ pub mod Instance
 pub mod GrantsInstance
 pub mod RebuildInstance
 pub mod BatchInstance
+pub mod FitInstance
