@@ -1,10 +1,11 @@
--- REQUEST (vii) IN NUMBERS, on 256 words: which of three tree chunks a large request gets; when it gets `dv` and when not; each way of a small
--- request; and blocks given back in two orders, with the bin that differs. Heaps and answers are computed by the rules. Assumes nothing.
+-- REQUEST (vii) IN NUMBERS, on 256 words: which of three tree chunks a large request gets; when it gets `dv` and when not; each way of a
+-- small request; and blocks given back in two orders, with the bin that differs. Heaps and answers are computed by the rules. Assumes
+-- nothing.
 use mathlib.Core.Path.{_≡_, refl, sym, _∙_, ap, subst}
 use mathlib.Core.Bool.{Bool, true, false}
 use mathlib.Core.List.{List, [], _∷_, _++_}
-use mathlib.Core.Logic.{inl, inr, ⊎-elim}
-use mathlib.Core.Option.{none, some}
+use mathlib.Core.Logic.{inl, inr}
+use mathlib.Core.Option.{some}
 use Prim.Native.Nat.{ℕ, zero, suc, _+_, _*_, _≤_, _<_}
 use native.Mathlib.Omega.{arith}
 use lib.Dec.{eqb}
@@ -21,7 +22,7 @@ use Rattle.rules.specs.Heap.{Heap, freshHeap}
 use Rattle.rules.specs.Calls.{Call, Malloc, Free, granted, isIn, answerTo}
 use Rattle.holds.specs.Holds.{Control, SpareAt}
 use Rattle.holds.specs.Rings.{ringOf}
-use Rattle.calls.specs.Histories.{Event, asks, box, after, answers, heapAfter, HeldIn}
+use Rattle.calls.specs.Histories.{Event, asks, after, heapAfter, HeldIn}
 use Rattle.promises.specs.Promises.{says, Allowed, LiveAt, then}
 use Rattle.promises.specs.Requests.{TreeChunk, Empty, givesBack, SameChunks}
 use Rattle.promises.specs.AllKept.{kept, requests-kept}
@@ -49,7 +50,8 @@ holds es = held zeros count-256 es
 
 ruled-so : (es : List Event) (k : Call) → says (c es) (w es) k ≡ answerTo wide 256 (heap es) k .answer
 ruled-so es k =
-    kept .the-rules .obeys (c es) (w es) (heap es) k (holds es) .0 ∙ ap (λ n. answerTo wide n (heap es) k .answer) (count zeros count-256 es)
+    kept .the-rules .obeys (c es) (w es) (heap es) k (holds es) .0 ∙ ap (λ n. answerTo wide n (heap es) k .answer)
+    (count zeros count-256 es)
 
 within : (es : List Event) (n : ℕ) → n ≤ 2048 → n ≤ 8 * length (w es)
 within es n l = omega (arith, l, count zeros count-256 es)
@@ -99,7 +101,8 @@ first = ruled-so three (Malloc 24)
 pub smallest-tree : (s : ℕ) × ((z u : ℕ) → TreeChunk (c three) (heap three) z u → s ≤ u)
 unfolding needWords need roundUp treeIndex minSize huge bit
 smallest-tree =
-    let t = requests-kept .fit .small-tree (c three) (w three) (heap three) 24 38 66 (holds three) (omega arith) (within three 24 (omega arith))
+    let t = requests-kept .fit .small-tree (c three) (w three) (heap three) 24 38 66 (holds three) (omega arith)
+    (within three 24 (omega arith))
     (omega (arith, no-spare)) bins-bare second-tree in
     (t .1, t .4)
 
@@ -109,10 +112,12 @@ abbrev spare : List Event
 spare = asks (Malloc 520) ∷ asks (Malloc 24) ∷ asks (Malloc 312) ∷ asks (Malloc 24) ∷ asks (Free 16) ∷ asks (Malloc 24) ∷ []
 
 abbrev beside-320 : List Event
-beside-320 = asks (Malloc 520) ∷ asks (Malloc 24) ∷ asks (Malloc 312) ∷ asks (Malloc 24) ∷ asks (Free 16) ∷ asks (Malloc 24) ∷ asks (Free 576) ∷ []
+beside-320 =
+    asks (Malloc 520) ∷ asks (Malloc 24) ∷ asks (Malloc 312) ∷ asks (Malloc 24) ∷ asks (Free 16) ∷ asks (Malloc 24) ∷ asks (Free 576) ∷ []
 
 abbrev beside-496 : List Event
-beside-496 = asks (Malloc 520) ∷ asks (Malloc 24) ∷ asks (Malloc 488) ∷ asks (Malloc 24) ∷ asks (Free 16) ∷ asks (Malloc 24) ∷ asks (Free 576) ∷ []
+beside-496 =
+    asks (Malloc 520) ∷ asks (Malloc 24) ∷ asks (Malloc 488) ∷ asks (Malloc 24) ∷ asks (Free 16) ∷ asks (Malloc 24) ∷ asks (Free 576) ∷ []
 
 spare-bytes : (es : List Event) (p s : ℕ) → heap es .dv ≡ some p → Starts 0 (heap es .chunks) p (free s) → c es .dvSize ≡ 8 * s
 spare-bytes es p s q st =
@@ -152,7 +157,8 @@ pub small-from-dv : says (c spare) (w spare) (Malloc 24) ≡ granted 48
 unfolding needWords need roundUp treeIndex minSize huge bit
 small-from-dv =
     requests-kept .fit .small-dv (c spare) (w spare) (heap spare) 24 (holds spare) (omega arith) (within spare 24 (omega arith)) refl
-    (omega (arith, spare-bytes spare 4 62 refl (inr (inl (refl, refl))))) ∙ ap granted (let z : c spare .dv + 16 ≡ 48 = omega (arith, dv-32) in z)
+    (omega (arith, spare-bytes spare 4 62 refl (inr (inl (refl, refl))))) ∙ ap granted
+    (let z : c spare .dv + 16 ≡ 48 = omega (arith, dv-32) in z)
 
 -- ---- the oldest of three tree chunks of 272 bytes, which came from the highest down
 
@@ -180,7 +186,8 @@ small-ones = asks (Malloc 24) ∷ asks (Malloc 24) ∷ asks (Malloc 24) ∷ asks
 pub newest-own : says (c small-ones) (w small-ones) (Malloc 24) ≡ granted 80
 unfolding needWords need roundUp treeIndex minSize huge bit
 newest-own =
-    requests-kept .fit .small-own (c small-ones) (w small-ones) (heap small-ones) 24 8 (0 ∷ []) (holds small-ones) (omega arith) (within small-ones 24 (omega arith)) refl
+    requests-kept .fit .small-own (c small-ones) (w small-ones) (heap small-ones) 24 8 (0 ∷ []) (holds small-ones) (omega arith)
+    (within small-ones 24 (omega arith)) refl
 
 abbrev one-48 : List Event
 one-48 = asks (Malloc 40) ∷ asks (Malloc 24) ∷ asks (Free 16) ∷ []
@@ -198,7 +205,8 @@ four-five (suc (suc (suc (suc (suc (suc k)))))) lo hi = absurd (omega arith)
 pub fuller-bin : says (c one-48) (w one-48) (Malloc 24) ≡ granted 16
 unfolding needWords need roundUp treeIndex minSize huge bit
 fuller-bin =
-    requests-kept .fit .small-fuller (c one-48) (w one-48) (heap one-48) 24 6 0 [] (holds one-48) (omega arith) (within one-48 24 (omega arith))
+    requests-kept .fit .small-fuller (c one-48) (w one-48) (heap one-48) 24 6 0 [] (holds one-48) (omega arith)
+    (within one-48 24 (omega arith))
     (omega (arith, holds one-48 .spare .1)) (omega arith) (omega arith) four-five refl
 
 -- ---- either order: of four blocks of 24 bytes the second and the third are given back, and become one chunk; or the first and the third
@@ -212,7 +220,8 @@ live x st = live-at (then zeros four) (heap four) (holds four) x 4 st
 pub joined : SameChunks (then zeros (four ++ givesBack (48 ∷ 80 ∷ []))) (then zeros (four ++ givesBack (80 ∷ 48 ∷ [])))
 unfolding needWords need roundUp treeIndex minSize huge bit
 joined =
-    requests-kept .fit .either-order (c four) (w four) (heap four) 48 24 80 24 (holds four) (live 4 (inr (inl (refl, refl)))) (live 8 (inr (inr (inl (refl, refl)))))
+    requests-kept .fit .either-order (c four) (w four) (heap four) 48 24 80 24 (holds four) (live 4 (inr (inl (refl, refl))))
+    (live 8 (inr (inr (inl (refl, refl)))))
     (λ z. omega (arith, z)) .1
 
 abbrev one-way : List Event
@@ -224,7 +233,8 @@ other-way = four ++ givesBack (80 ∷ 16 ∷ [])
 pub apart : SameChunks (then zeros one-way) (then zeros other-way)
 unfolding needWords need roundUp treeIndex minSize huge bit
 apart =
-    requests-kept .fit .either-order (c four) (w four) (heap four) 16 24 80 24 (holds four) (live 0 (inl (refl, refl))) (live 8 (inr (inr (inl (refl, refl)))))
+    requests-kept .fit .either-order (c four) (w four) (heap four) 16 24 80 24 (holds four) (live 0 (inl (refl, refl)))
+    (live 8 (inr (inr (inl (refl, refl)))))
     (λ z. omega (arith, z)) .1
 
 -- the head of the first chunk is the same word, by the promise
@@ -255,5 +265,7 @@ same-three x = turned (eqb x 16) (eqb x 48) (eqb x 80)
     turned false false true = refl
     turned false false false = refl
 
-pub three-blocks : SameChunks (after wide (then zeros four) (givesBack (16 ∷ 48 ∷ 80 ∷ []))) (after wide (then zeros four) (givesBack (80 ∷ 16 ∷ 80 ∷ 48 ∷ [])))
-three-blocks = requests-kept .fit .any-order (c four) (w four) (heap four) (16 ∷ 48 ∷ 80 ∷ []) (80 ∷ 16 ∷ 80 ∷ 48 ∷ []) (holds four) same-three
+pub three-blocks : SameChunks (after wide (then zeros four) (givesBack (16 ∷ 48 ∷ 80 ∷ [])))
+    (after wide (then zeros four) (givesBack (80 ∷ 16 ∷ 80 ∷ 48 ∷ [])))
+three-blocks =
+    requests-kept .fit .any-order (c four) (w four) (heap four) (16 ∷ 48 ∷ 80 ∷ []) (80 ∷ 16 ∷ 80 ∷ 48 ∷ []) (holds four) same-three

@@ -1,22 +1,22 @@
--- DOCUMENT 02, (vii), IS KEPT. Fit: a large need's answer is the find of the tries, the spare chunk, or the top (`Ways`), and what the find is
--- `BestFit` of `holds` tells of the tries; every tree chunk is in one of them. Order: by `GivenBack`, and two arenas that hold the same chunks
--- agree in heads and feet. Assumes nothing.
+-- DOCUMENT 02, (vii), IS KEPT. Fit: a large need's answer is the find of the tries, the spare chunk, or the top (`Ways`), and what the
+-- find is `BestFit` of `holds` tells of the tries; every tree chunk is in one of them. Order: by `GivenBack`, and two arenas that hold the
+-- same chunks agree in heads and feet. Assumes nothing.
 use mathlib.Core.Path.{_≡_, refl, sym, _∙_, ap, subst}
 use mathlib.Core.Bool.{Bool, true, false}
 use mathlib.Core.List.{List, [], _∷_}
 use mathlib.Core.Option.{Option, none, some}
-use mathlib.Core.Logic.{_↔_, _⊎_, inl, inr, ⊎-elim}
+use mathlib.Core.Logic.{⊎-elim}
 use Prim.Native.Nat.{ℕ, _+_, _*_, _≤_, _<_, zero-le}
 use native.Mathlib.Omega.{arith}
-use lib.Dec.{eqb, leb, ltb}
-use borrow.Author.Tests.{leb-true, leb-false, ltb-true, ltb-false, le-ltb, eqb-true}
+use lib.Dec.{leb, ltb}
+use borrow.Author.Tests.{leb-true, leb-false, ltb-true, ltb-false, le-ltb}
 use lib.ListN.{length, getD, List·getD-eq-default}
 use Rattle.words.specs.Logic.{pick, pick-case, false-true, le-or-lt, lt-or-le}
-use Rattle.words.specs.Edition.{wide, rootMark, enc-inj, none-free}
+use Rattle.words.specs.Edition.{wide, rootMark, enc-inj}
 use Rattle.words.specs.Fields.{ind-ne, ind-self, fld}
 use Rattle.index.specs.Sizes.{needWords}
 use Rattle.index.specs.TreeBin.{treeIndex}
-use Rattle.tiling.specs.Tiling.{used, free, size, endOf, Starts}
+use Rattle.tiling.specs.Tiling.{free, size, endOf, Starts}
 use Rattle.tries.specs.Tree.{leaf, All, all-map}
 use Rattle.tries.specs.Members.{member-at, has-all}
 use Rattle.tries.specs.Shape.{range}
@@ -24,10 +24,11 @@ use Rattle.tries.specs.Search.{Cand}
 use Rattle.rules.specs.BinOf.{isSmall, trieBin, trieBits, trieLow, InTrie, trie-is, huge}
 use Rattle.rules.specs.Heap.{Heap, heapDv}
 use Rattle.rules.specs.Binning.{sizeAt, unbin, spareWords, dvWords}
-use Rattle.rules.specs.Malloc.{Grant, to-dv, to-bin, bestLarge, fromBin, fromDv, fromTop, fromSpareOrTop, fromDvOrTop, mallocSmall, mallocLarge, malloc}
+use Rattle.rules.specs.Malloc.{Grant, to-dv, to-bin, bestLarge, fromBin, fromDv}
+use Rattle.rules.specs.Malloc.{fromTop, fromSpareOrTop, fromDvOrTop, mallocSmall, mallocLarge, malloc}
 use Rattle.rules.specs.ReallocLaws.{some-none}
 use Rattle.rules.specs.Tidy.{starts-in′, starts-size}
-use Rattle.rules.specs.Calls.{Malloc, Free, granted, done, isIn, blockOf, liveSize, grantOr6, freeCall, refuse, too-many, answerTo}
+use Rattle.rules.specs.Calls.{Malloc, granted, blockOf, grantOr6, refuse, too-many}
 use Rattle.holds.specs.Holds.{Control, Holds, SpareAt, inDv}
 use Rattle.holds.specs.Ops.{state}
 use Rattle.holds.specs.Spot.{looked-up}
@@ -38,7 +39,7 @@ use Rattle.holds.specs.BestFit.{Fits, Misses, best-large}
 use Rattle.malloc.specs.MallocObeys.{serve-place}
 use Rattle.calls.specs.Record.{image}
 use Rattle.calls.specs.CallObeys.{even, least, low}
-use Rattle.promises.specs.Promises.{says, Serves}
+use Rattle.promises.specs.Promises.{says}
 use Rattle.promises.specs.Requests.{TreeChunk, Empty, Fit}
 use Rattle.promises.specs.SmallFit.{At, SmallWays, at-own, at-dv, at-fuller, at-tree, at-top, nothing, small-ways}
 use Rattle.promises.specs.OrderKept.{either-order, any-order}
@@ -51,7 +52,8 @@ use Rattle.promises.specs.GrantsKept.{dv-of, of-dv}
 
 -- where a large need of nb words is served: the place, if it is granted
 data Ways (h : Heap) (nb : ℕ) (o : Option Grant) : Type 0 where
-  by-tree : (k : Cand) → Fits wide h 0 nb k → (nb ≤ dvWords h → k .size < dvWords h) → (g : Grant) → o ≡ some g → g .place ≡ k .at → Ways h nb o
+  by-tree : (k : Cand) → Fits wide h 0 nb k → (nb ≤ dvWords h → k .size < dvWords h) → (g : Grant) → o ≡ some g → g .place ≡ k .at
+      → Ways h nb o
   by-dv : (d : ℕ) → h .dv ≡ some d → nb ≤ dvWords h → ((j : ℕ) → j < 32 → All (λ s. nb ≤ s → dvWords h ≤ s) (getD (h .tries) j leaf))
       → (g : Grant) → o ≡ some g → g .place ≡ d → Ways h nb o
   by-top : dvWords h < nb → (((g : Grant) → o ≡ some g → g .place ≡ endOf 0 (h .chunks))) → Ways h nb o
@@ -63,7 +65,8 @@ module _ (c : Control) (w : List ℕ) (h : Heap) (n : Holds wide c w h) where
       let q : isSmall wide t ≡ false = le-ltb (8 * t) 256 l in
       let i = trie-index wide c w h [] n y t st q in
       let m = member-at wide (fld w) (trieBin wide t) (rootMark wide) P y (getD (h .tries) (trieBin wide t) leaf)
-      (in-trie wide c w h [] n y t st (omega (arith, other (h .dv) refl)) q) (a (trieBin wide t) (i .0)) (n .tries .at (trieBin wide t) (i .0) .tree) in
+      (in-trie wide c w h [] n y t st (omega (arith, other (h .dv) refl)) q) (a (trieBin wide t) (i .0))
+      (n .tries .at (trieBin wide t) (i .0) .tree) in
       subst P (enc-inj wide (m .0) t (omega (arith, m .1, free-head wide c w h [] n y t st .0))) (m .2)
     where
       other : (d : Option ℕ) → h .dv ≡ d → inDv d y ≡ 0
@@ -86,9 +89,11 @@ module _ (c : Control) (w : List ℕ) (h : Heap) (n : Holds wide c w h) where
 
     top-place : (g : Grant) → fromTop h nb ≡ some g → g .place ≡ endOf 0 (h .chunks)
     top-place g =
-        pick-case (λ (o : Option Grant). o ≡ some g → g .place ≡ endOf 0 (h .chunks)) (ltb nb (h .top)) (λ _ q. sym (ap place-of q)) (λ _ q. some-none (sym q))
+        pick-case (λ (o : Option Grant). o ≡ some g → g .place ≡ endOf 0 (h .chunks)) (ltb nb (h .top)) (λ _ q. sym (ap place-of q))
+        (λ _ q. some-none (sym q))
 
-    dv-or-top : (nb ≤ dvWords h → (j : ℕ) → j < 32 → All (λ s. nb ≤ s → dvWords h ≤ s) (getD (h .tries) j leaf)) → Ways h nb (fromDvOrTop wide h nb)
+    dv-or-top : (nb ≤ dvWords h → (j : ℕ) → j < 32 → All (λ s. nb ≤ s → dvWords h ≤ s) (getD (h .tries) j leaf))
+        → Ways h nb (fromDvOrTop wide h nb)
     dv-or-top f = go (h .dv) refl
       where
         go : (d : Option ℕ) → h .dv ≡ d → Ways h nb (fromSpareOrTop wide h d nb)
@@ -100,7 +105,8 @@ module _ (c : Control) (w : List ℕ) (h : Heap) (n : Holds wide c w h) where
             by-dv d q k (f k) (fromDv wide h d nb) refl (serve-place wide to-dv (heapDv h none) d (sizeAt 0 (h .chunks) d) nb))
             (λ u. by-top (omega (arith, z, leb-false nb (sizeAt 0 (h .chunks) d) u)) top-place)
 
-    from-tree : Fits wide h 0 nb find → (nb ≤ dvWords h → find .size < dvWords h) → Ways h nb (some (fromBin wide to-bin h (find .at) (find .size) nb))
+    from-tree : Fits wide h 0 nb find → (nb ≤ dvWords h → find .size < dvWords h)
+        → Ways h nb (some (fromBin wide to-bin h (find .at) (find .size) nb))
     from-tree f l =
         by-tree find f l (fromBin wide to-bin h (find .at) (find .size) nb) refl
         (serve-place wide to-bin (unbin wide h (find .at) (find .size)) (find .at) (find .size) nb)
@@ -110,14 +116,16 @@ module _ (c : Control) (w : List ℕ) (h : Heap) (n : Holds wide c w h) where
         pick-case (Ways h nb) (ltb (find .size) huge)
         (λ _. pick-case (Ways h nb) (leb nb (dvWords h))
         (λ _. pick-case (Ways h nb) (ltb (find .size) (dvWords h)) (λ y. from-tree f (λ _. ltb-true (find .size) (dvWords h) y))
-        (λ y. dv-or-top (λ _ j l. all-map (λ s u v. let a : dvWords h ≤ s = omega (arith, u v, ltb-false (find .size) (dvWords h) y) in a) (getD (h .tries) j leaf) (f .least j zero-le l))))
+        (λ y. dv-or-top (λ _ j l. all-map (λ s u v. let a : dvWords h ≤ s = omega
+        (arith, u v, ltb-false (find .size) (dvWords h) y) in a) (getD (h .tries) j leaf) (f .least j zero-le l))))
         (λ z. from-tree f (λ u. absurd (let b : ⊥ = omega (arith, u, leb-false nb (dvWords h) z) in b))))
         (λ z. false-true (sym z ∙ f .found))
 
     missed : Misses wide h 0 nb find → Ways h nb (mallocLarge wide h nb)
     missed m =
         pick-case (Ways h nb) (ltb (find .size) huge) (λ z. false-true (sym (m .missed) ∙ z))
-        (λ _. dv-or-top (λ _ j l. all-map (λ s u v. absurd (let b : ⊥ = omega (arith, u, v) in b)) (getD (h .tries) j leaf) (m .small j zero-le l)))
+        (λ _. dv-or-top (λ _ j l. all-map (λ s u v. absurd (let b : ⊥ = omega (arith, u, v) in b)) (getD (h .tries) j leaf)
+        (m .small j zero-le l)))
 
     ways : 8 * nb < huge → Ways h nb (malloc wide h nb)
     ways hi =
@@ -129,9 +137,11 @@ module _ (c : Control) (w : List ℕ) (h : Heap) (n : Holds wide c w h) where
 
   -- a free chunk starts before the top
   before-top : (x s : ℕ) → Starts 0 (h .chunks) x (free s) → x ≡ endOf 0 (h .chunks) → ⊥
-  before-top x s st z = omega (arith, z, starts-in′ 0 (h .chunks) x (free s) st, starts-size true 0 (h .chunks) x (free s) (tidy c w h n .chunks) st)
+  before-top x s st z =
+      omega (arith, z, starts-in′ 0 (h .chunks) x (free s) st, starts-size true 0 (h .chunks) x (free s) (tidy c w h n .chunks) st)
 
-  best-fit : (x y s : ℕ) → 256 ≤ 8 * needWords 8 x → Starts 0 (h .chunks) y (free s) → says c w (Malloc x) ≡ granted (blockOf wide y) → (c .dv ≡ 8 * y → ⊥)
+  best-fit : (x y s : ℕ) → 256 ≤ 8 * needWords 8 x → Starts 0 (h .chunks) y (free s) → says c w (Malloc x) ≡ granted (blockOf wide y)
+      → (c .dv ≡ 8 * y → ⊥)
       → (z t : ℕ) → TreeChunk c h z t → needWords 8 x ≤ t → s ≤ t
   best-fit x y s lo st u nd z t tc fit = go (ways-of x lo (b .0))
     where
@@ -144,7 +154,8 @@ module _ (c : Control) (w : List ℕ) (h : Heap) (n : Holds wide c w h) where
       go : Ways h (needWords 8 x) (malloc wide h (needWords 8 x)) → s ≤ t
       go (by-tree k f l g q p) =
           let e : k .at ≡ y = sym p ∙ at g q in
-          let r : s ≡ k .size = ap size (one-chunk h (tidy c w h n) y (free s) (free (k .size)) st (subst (λ (a : ℕ). Starts 0 (h .chunks) a (free (k .size))) e (f .starts))) in
+          let r : s ≡ k .size = ap size (one-chunk h (tidy c w h n) y (free s) (free (k .size)) st
+          (subst (λ (a : ℕ). Starts 0 (h .chunks) a (free (k .size))) e (f .starts))) in
           omega (arith, r, tree-size (λ a. needWords 8 x ≤ a → k .size ≤ a) (λ j m. f .least j zero-le m) z t tc fit)
       go (by-dv d q l a g r p) = absurd (nd (of-dv c w h n y (q ∙ ap some (sym p ∙ at g r))))
       go (by-top l f) = absurd (before-top y s st (sym (at (b .1 .grant) (b .1 .is)) ∙ f (b .1 .grant) (b .1 .is)))
@@ -181,7 +192,8 @@ module _ (c : Control) (w : List ℕ) (h : Heap) (n : Holds wide c w h) where
           let s = spare-starts (b .1 .grant .place) spare in
           absurd (before-top (b .1 .grant .place) (s .0) (s .1) (f (b .1 .grant) (b .1 .is)))
 
-  told : (x : ℕ) → x ≤ 8 * length w → (g : Grant) → malloc wide h (needWords 8 x) ≡ some g → says c w (Malloc x) ≡ granted (blockOf wide (g .place))
+  told : (x : ℕ) → x ≤ 8 * length w → (g : Grant) → malloc wide h (needWords 8 x) ≡ some g
+      → says c w (Malloc x) ≡ granted (blockOf wide (g .place))
   told x l g q =
       answer c w h n (Malloc x)
       ∙ ap (λ b. pick b (refuse h too-many) (grantOr6 wide h (malloc wide h (needWords 8 x))) .answer) (le-ltb (8 * length w) x l)
@@ -195,7 +207,8 @@ module _ (c : Control) (w : List ℕ) (h : Heap) (n : Holds wide c w h) where
           let s : k .size < dvWords h = less (omega (arith, fit, dv-bytes)) in
           absurd (none-better (k .at) (k .size) (f .starts, f .tall, λ z. not-dv (k .at) (f .not-dv) (dv-of c w h n (k .at) z)) (f .large)
           (let z : 8 * k .size < c .dvSize = omega (arith, s, dv-bytes) in z))
-      go (by-dv d q a e g r p) = told x l g r ∙ ap granted (let z : 8 * (g .place + 2) ≡ c .dv + 16 = omega (arith, p, of-dv c w h n d q) in z)
+      go (by-dv d q a e g r p) =
+          told x l g r ∙ ap granted (let z : 8 * (g .place + 2) ≡ c .dv + 16 = omega (arith, p, of-dv c w h n d q) in z)
       go (by-top a f) = absurd (let z : ⊥ = omega (arith, a, fit, dv-bytes) in z)
 
   -- ---- a small need
@@ -259,12 +272,14 @@ module _ (c : Control) (w : List ℕ) (h : Heap) (n : Holds wide c w h) where
         go (at-fuller i z zs r f u v g p a) =
             ⊎-elim (λ m. nothing (getD (h .small) i []) (e i u m) p)
             (λ m. ⊎-elim (λ k. nothing (getD (h .small) j []) (g j (omega (arith, lo)) k) q)
-            (λ k. grants z a ∙ ap (λ b. granted (blockOf wide b)) (first-is i j z y zs ys (let b : i ≡ j = omega (arith, m, k) in b) p q)) (lt-or-le j i)) (lt-or-le i j)
+            (λ k. grants z a ∙ ap (λ b. granted (blockOf wide b))
+            (first-is i j z y zs ys (let b : i ≡ j = omega (arith, m, k) in b) p q)) (lt-or-le j i)) (lt-or-le i j)
         go (at-tree k f g t a) = nothing (getD (h .small) j []) (g j (omega (arith, lo)) hi) q
         go (at-top k f g m a) = nothing (getD (h .small) j []) (g j (omega (arith, lo)) hi) q
 
     abbrev Smallest : Type 0
-    Smallest = (y : ℕ) × (t : ℕ) × TreeChunk c h y t × (says c w (Malloc x) ≡ granted (blockOf wide y)) × ((z u : ℕ) → TreeChunk c h z u → t ≤ u)
+    Smallest =
+        (y : ℕ) × (t : ℕ) × TreeChunk c h y t × (says c w (Malloc x) ≡ granted (blockOf wide y)) × ((z u : ℕ) → TreeChunk c h z u → t ≤ u)
 
     small-tree : (y t : ℕ) → c .dvSize < 8 * nb → Empty h nb 32 → TreeChunk c h y t → Smallest
     small-tree y t less e tc = go small
@@ -293,7 +308,8 @@ module _ (c : Control) (w : List ℕ) (h : Heap) (n : Holds wide c w h) where
       let j = f .there .0 in
       let i = f .there .1 in
       let sh = n .tries .at j i .shape in
-      let b : InTrie wide j (k .size) = has-all (InTrie wide j) (k .at) (k .size) (getD (h .tries) j leaf) (range (trieBits wide j) (trieLow wide j) (getD (h .tries) j leaf) sh) (f .there .2) in
+      let b : InTrie wide j (k .size) = has-all (InTrie wide j) (k .at) (k .size) (getD (h .tries) j leaf)
+      (range (trieBits wide j) (trieLow wide j) (getD (h .tries) j leaf) sh) (f .there .2) in
       subst (λ z. (ps : List ℕ) × (ringOf (k .size) (getD (h .tries) z leaf) ≡ k .at ∷ ps)) (sym (trie-is wide j (k .size) i b))
       (ring-has (trieBits wide j) (trieLow wide j) (k .at) (k .size) (getD (h .tries) j leaf) sh (f .there .2))
 
@@ -311,14 +327,20 @@ module _ (c : Control) (w : List ℕ) (h : Heap) (n : Holds wide c w h) where
 
       of-find : (k : Cand) → Fits wide h 0 (needWords 8 x) k → k .at ≡ y → Oldest y s
       of-find k f e =
-          let r : k .size ≡ s = ap size (one-chunk h (tidy c w h n) y (free (k .size)) (free s) (subst (λ (a : ℕ). Starts 0 (h .chunks) a (free (k .size))) e (f .starts)) (tc .0)) in
+          let r : k .size ≡ s = ap size (one-chunk h (tidy c w h n) y (free (k .size)) (free s)
+          (subst (λ (a : ℕ). Starts 0 (h .chunks) a (free (k .size))) e (f .starts)) (tc .0)) in
           subst (λ a. Oldest y a) r (subst (λ a. Oldest a (k .size)) e (find-oldest (needWords 8 x) k f))
 
       -- the newest of a small bin has less than 256 bytes
       binned : (j z : ℕ) (zs : List ℕ) → j < 32 → getD (h .small) j [] ≡ z ∷ zs → z ≡ y → Oldest y s
       binned j z zs l q e =
-          absurd (let a : ⊥ = omega (arith, l, tc .1, ap size (one-chunk h (tidy c w h n) y (free j) (free s)
-          (subst (λ (a : ℕ). Starts 0 (h .chunks) a (free j)) e (first-starts wide (state c w) h n j l z zs q)) (tc .0))) in a)
+          absurd (let a : ⊥ = omega (
+            arith,
+            l,
+            tc .1,
+            ap size (one-chunk h (tidy c w h n) y (free j) (free s)
+                (subst (λ (a : ℕ). Starts 0 (h .chunks) a (free j)) e (first-starts wide (state c w) h n j l z zs q)) (tc .0)),
+          ) in a)
 
       by-spare : (d : ℕ) → h .dv ≡ some d → d ≡ y → Oldest y s
       by-spare d q e = absurd (tc .2 (of-dv c w h n y (q ∙ ap some e)))
@@ -336,7 +358,8 @@ module _ (c : Control) (w : List ℕ) (h : Heap) (n : Holds wide c w h) where
         where
           own-low : (z : ℕ) (zs : List ℕ) → getD (h .small) (needWords 8 x) [] ≡ z ∷ zs → needWords 8 x < 32
           own-low z zs r =
-              ⊎-elim (λ k. nothing (getD (h .small) (needWords 8 x) []) (List·getD-eq-default (h .small) [] {n = needWords 8 x} (omega (arith, k, n .small .marks .count))) r) (λ k. k)
+              ⊎-elim (λ k. nothing (getD (h .small) (needWords 8 x) [])
+              (List·getD-eq-default (h .small) [] {n = needWords 8 x} (omega (arith, k, n .small .marks .count))) r) (λ k. k)
               (le-or-lt 32 (needWords 8 x))
       in-small (at-dv d r f e a) = by-spare d e (here d a)
       in-small (at-fuller j z zs r f u v e p a) = binned j z zs v p (here z a)

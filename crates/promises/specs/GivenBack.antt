@@ -1,6 +1,6 @@
--- WHAT GIVING BACK LEAVES, as chunks and top alone: the block is marked free where it stands, then neighbours that are free are joined, and what
--- is free before the top joins it. Joined chunks stay joined, and marking goes by place: so blocks may be marked all at once, in any order, and
--- joined at the end. Bins and the spare chunk play no part. Assumes nothing.
+-- WHAT GIVING BACK LEAVES, as chunks and top alone: the block is marked free where it stands, then neighbours that are free are joined,
+-- and what is free before the top joins it. Joined chunks stay joined, and marking goes by place: so blocks may be marked all at once, in
+-- any order, and joined at the end. Bins and the spare chunk play no part. Assumes nothing.
 use mathlib.Core.Path.{_≡_, refl, sym, _∙_, ap, subst}
 use mathlib.Core.Bool.{Bool, true, false}
 use mathlib.Core.List.{List, [], _∷_, _++_, append-nil, append-assoc}
@@ -11,8 +11,8 @@ use native.Mathlib.Omega.{arith}
 use lib.Dec.{eqb}
 use borrow.Author.Tests.{eqb-true, eqb-false, eq-eqb, ne-eqb}
 use Rattle.words.specs.Logic.{pick, pick-case, false-true}
-use Rattle.words.specs.Edition.{Edition, wide}
-use Rattle.tiling.specs.Tiling.{Chunk, used, free, size, inUse, endOf, lastUse, end-append, last-append, Starts}
+use Rattle.words.specs.Edition.{wide}
+use Rattle.tiling.specs.Tiling.{Chunk, used, free, endOf, lastUse, last-append, Starts}
 use Rattle.rules.specs.Heap.{Heap, heapDv, heapChunks}
 use Rattle.rules.specs.Binning.{isDv, unbin}
 use Rattle.rules.specs.Free.{Found, away, forward, giveFound, giveMaybe, giveBack}
@@ -124,7 +124,8 @@ open-same f g q a [] = refl
 open-same f g q a (used s ∷ cs) = rw (q (blockOf wide a)) (ap (λ z. mark (g (blockOf wide a)) s ∷ z) (open-same f g q (a + s) cs))
 open-same f g q a (free s ∷ cs) = ap (λ z. free s ∷ z) (open-same f g q (a + s) cs)
 
-open-none : (f : ℕ → Bool) (a : ℕ) (cs : List Chunk) → ((x s : ℕ) → Starts a cs x (used s) → f (blockOf wide x) ≡ false) → opened f a cs ≡ cs
+open-none : (f : ℕ → Bool) (a : ℕ) (cs : List Chunk) → ((x s : ℕ) → Starts a cs x (used s) → f (blockOf wide x) ≡ false)
+    → opened f a cs ≡ cs
 open-none f a [] n = refl
 open-none f a (used s ∷ cs) n = rw (n a s (inl (refl, refl))) (ap (λ z. used s ∷ z) (open-none f (a + s) cs (λ x t u. n x t (inr u))))
 open-none f a (free s ∷ cs) n = ap (λ z. free s ∷ z) (open-none f (a + s) cs (λ x t u. n x t (inr u)))
@@ -156,14 +157,17 @@ open-one xs s ys t =
 
     here : (b : Bool) → b ≡ true → mark b s ∷ opened f (p + s) ys ≡ free s ∷ ys
     here false q = false-true q
-    here true q = ap (λ z. free s ∷ z) (open-none f (p + s) ys (λ x k u. ne-eqb (blockOf wide x) (blockOf wide p) (λ z. omega (arith, z, four, starts-in′ (p + s) ys x (used k) u))))
+    here true q =
+        ap (λ z. free s ∷ z) (open-none f (p + s) ys
+        (λ x k u. ne-eqb (blockOf wide x) (blockOf wide p) (λ z. omega (arith, z, four, starts-in′ (p + s) ys x (used k) u))))
 
 -- ---- tidy chunks are joined already
 
 abbrev behindOf : List Chunk → Tiles → Tiles
 behindOf xs t = tiles (xs ++ t .chunks) (t .top)
 
-merge-behind : (pu : Bool) (xs zs : List Chunk) (ts : ℕ) → Tidy pu xs → lastUse true xs ≡ true → merged (xs ++ zs) ts ≡ behindOf xs (merged zs ts)
+merge-behind : (pu : Bool) (xs zs : List Chunk) (ts : ℕ) → Tidy pu xs → lastUse true xs ≡ true
+    → merged (xs ++ zs) ts ≡ behindOf xs (merged zs ts)
 merge-behind pu [] zs ts t l = refl
 merge-behind pu (used s ∷ xs) zs ts t l = ap (onUsed s) (merge-behind true xs zs ts (t .2) l)
 merge-behind pu (free s ∷ []) zs ts t l = false-true l
@@ -179,7 +183,8 @@ merge-tidy pu (free s ∷ free n ∷ cs) ts t l = false-true (t .3 .0)
 
 -- ---- the rule of free
 
-forward-tiles : (mine : Bool) (k : Heap) (xs : List Chunk) (a t : ℕ) (ys : List Chunk) → tilesOf (forward wide mine k xs a t ys) ≡ behindOf xs (joinTo t ys (k .top))
+forward-tiles : (mine : Bool) (k : Heap) (xs : List Chunk) (a t : ℕ) (ys : List Chunk)
+    → tilesOf (forward wide mine k xs a t ys) ≡ behindOf xs (joinTo t ys (k .top))
 forward-tiles mine k xs a t [] = ap (λ z. tiles z (t + k .top)) (sym (append-nil xs))
 forward-tiles mine k xs a t (used n ∷ ys) = same (away-leaves wide mine (heapChunks k (xs ++ (free t ∷ used n ∷ ys))) a t)
   where
@@ -225,16 +230,19 @@ module _ (h : Heap) (t : TidyHeap h) (p s : ℕ) (b : Block (h .chunks) p s) whe
   plain : f .back ≡ 0 → behindOf (f .before) (joinTo (f .words) rest (h .top)) ≡ merged (front f ++ (free s ∷ rest)) (h .top)
   plain z =
       sym (ap (λ q. merged (q ++ (free s ∷ rest)) (h .top)) (front-plain f z)
-      ∙ merge-behind true (f .before) (free s ∷ rest) (h .top) (subst (Tidy true) (front-plain f z) (tidy-left true (front f) (used s ∷ rest) whole)) (b .before)
+      ∙ merge-behind true (f .before) (free s ∷ rest) (h .top)
+      (subst (Tidy true) (front-plain f z) (tidy-left true (front f) (used s ∷ rest) whole)) (b .before)
       ∙ ap (λ q. behindOf (f .before) (onFree s q)) joined
       ∙ ap (λ q. behindOf (f .before) (joinTo q rest (h .top))) (sym (b .words)))
 
-  backed : (f .back ≡ 0 → ⊥) → behindOf (f .before) (joinTo (f .back + f .words) rest (h .top)) ≡ merged (front f ++ (free s ∷ rest)) (h .top)
+  backed : (f .back ≡ 0 → ⊥) → behindOf (f .before) (joinTo (f .back + f .words) rest (h .top)) ≡ merged (front f ++ (free s ∷ rest))
+      (h .top)
   backed z =
       sym (ap (λ q. merged (q ++ (free s ∷ rest)) (h .top)) (front-free f z)
       ∙ ap (λ q. merged q (h .top)) (append-assoc (f .before) (free (f .back) ∷ []) (free s ∷ rest))
       ∙ merge-behind true (f .before) (free (f .back) ∷ free s ∷ rest) (h .top)
-      (tidy-left true (f .before) (free (f .back) ∷ []) (subst (Tidy true) (front-free f z) (tidy-left true (front f) (used s ∷ rest) whole))) (b .before)
+      (tidy-left true (f .before) (free (f .back) ∷ [])
+      (subst (Tidy true) (front-free f z) (tidy-left true (front f) (used s ∷ rest) whole))) (b .before)
       ∙ ap (λ q. behindOf (f .before) (onFree (f .back) (onFree s q))) joined
       ∙ ap (behindOf (f .before)) (join-twice (f .back) s rest (h .top))
       ∙ ap (λ q. behindOf (f .before) (joinTo (f .back + q) rest (h .top))) (sym (b .words)))
@@ -265,7 +273,8 @@ module _ (m : ℕ) where
           record {
             tidy = t;
             left = sym (ap (λ z. merged z (h .top)) (open-none (λ x. eqb x off) 0 (h .chunks)
-                (λ x s st. ne-eqb (blockOf wide x) off (λ z. some-none (sym (starts-live wide true 0 (h .chunks) x s (t .chunks) st) ∙ ap (liveSize wide 0 (h .chunks)) z ∙ q))))
+                (λ x s st. ne-eqb (blockOf wide x) off (λ z. some-none
+                (sym (starts-live wide true 0 (h .chunks) x s (t .chunks) st) ∙ ap (liveSize wide 0 (h .chunks)) z ∙ q))))
                 ∙ merge-tidy true (h .chunks) (h .top) (t .chunks) (t .last));
           }
       go (some s) q = at (live-starts wide 0 (h .chunks) off s q)
@@ -284,7 +293,8 @@ module _ (m : ℕ) where
   pub gives-all : (offs : List ℕ) (h : Heap) → TidyHeap h
       → tilesOf (heapAfter wide m h (givesBack offs)) ≡ merged (opened (λ x. isIn x offs) 0 (h .chunks)) (h .top)
   gives-all [] h t =
-      sym (ap (λ z. merged z (h .top)) (open-none (λ x. false) 0 (h .chunks) (λ x s st. refl)) ∙ merge-tidy true (h .chunks) (h .top) (t .chunks) (t .last))
+      sym (ap (λ z. merged z (h .top)) (open-none (λ x. false) 0 (h .chunks) (λ x s st. refl)) ∙ merge-tidy true (h .chunks) (h .top)
+      (t .chunks) (t .last))
   gives-all (off ∷ offs) h t =
       gives-all offs g (a .tidy)
       ∙ ap (λ (z : Tiles). merged (opened (λ x. isIn x offs) 0 (z .chunks)) (z .top)) (a .left)
@@ -301,4 +311,5 @@ module _ (m : ℕ) where
   pub same-tiles : (offs offs′ : List ℕ) (h : Heap) → TidyHeap h → ((x : ℕ) → isIn x offs ≡ isIn x offs′)
       → tilesOf (heapAfter wide m h (givesBack offs)) ≡ tilesOf (heapAfter wide m h (givesBack offs′))
   same-tiles offs offs′ h t q =
-      gives-all offs h t ∙ ap (λ z. merged z (h .top)) (open-same (λ x. isIn x offs) (λ x. isIn x offs′) q 0 (h .chunks)) ∙ sym (gives-all offs′ h t)
+      gives-all offs h t ∙ ap (λ z. merged z (h .top)) (open-same (λ x. isIn x offs) (λ x. isIn x offs′) q 0 (h .chunks)) ∙ sym
+      (gives-all offs′ h t)

@@ -213,12 +213,14 @@ pub record Fit : Type 0 where
   -- A large request served from a tree, the chunk of s words at x, gets one such that no smaller tree chunk holds the need.
   pub best-fit : (c : Control) (w : List ℕ) (h : Heap) (n x s : ℕ) → 256 ≤ 8 * needWords 8 n → Serves c w h n x s → (c .dv ≡ 8 * x → ⊥)
       → (y t : ℕ) → TreeChunk c h y t → needWords 8 n ≤ t → s ≤ t
-  -- It gets `dv` exactly when it isn't above the arena's bytes, `dv` holds it, and no tree chunk that holds it is strictly smaller than `dv`.
+  -- It gets `dv` exactly when `dv` holds it and no tree chunk that holds it is strictly smaller than `dv`. (More bytes than the arena's are
+  -- refused before, with 4.)
   pub dv-exactly : (c : Control) (w : List ℕ) (h : Heap) (n : ℕ) → Holds wide c w h → 256 ≤ 8 * needWords 8 n
       → says c w (Malloc n) ≡ granted (c .dv + 16)
       ↔ (n ≤ 8 * length w) × (8 * needWords 8 n ≤ c .dvSize)
       × ((y t : ℕ) → TreeChunk c h y t → needWords 8 n ≤ t → 8 * t < c .dvSize → ⊥)
-  -- Of several tree chunks of one size a request, large or small, gets the oldest: `ringOf s` lists a tree's chunks of s words as they came.
+  -- Of several tree chunks of one size a request, large or small, gets the oldest: `ringOf s` lists a tree's chunks of s words, the oldest
+  -- first.
   pub oldest : (c : Control) (w : List ℕ) (h : Heap) (n x s : ℕ) → Serves c w h n x s → TreeChunk c h x s
       → (ps : List ℕ) × (ringOf s (getD (h .tries) (treeIndex (8 * s)) leaf) ≡ x ∷ ps)
   -- A small request gets the newest chunk of its own size,
@@ -226,7 +228,8 @@ pub record Fit : Type 0 where
       → n ≤ 8 * length w → getD (h .small) (needWords 8 n) [] ≡ x ∷ xs → says c w (Malloc n) ≡ granted (blockOf wide x)
   -- else `dv`, if that holds it,
   pub small-dv : (c : Control) (w : List ℕ) (h : Heap) (n : ℕ) → Holds wide c w h → 8 * needWords 8 n < 256
-      → n ≤ 8 * length w → getD (h .small) (needWords 8 n) [] ≡ [] → 8 * needWords 8 n ≤ c .dvSize → says c w (Malloc n) ≡ granted (c .dv + 16)
+      → n ≤ 8 * length w → getD (h .small) (needWords 8 n) [] ≡ [] → 8 * needWords 8 n ≤ c .dvSize → says c w (Malloc n) ≡ granted
+      (c .dv + 16)
   -- else the newest of the smallest fuller bin,
   pub small-fuller : (c : Control) (w : List ℕ) (h : Heap) (n j x : ℕ) (xs : List ℕ) → Holds wide c w h → 8 * needWords 8 n < 256
       → n ≤ 8 * length w → c .dvSize < 8 * needWords 8 n → needWords 8 n < j → j < 32 → Empty h (needWords 8 n) j

@@ -1,10 +1,10 @@
--- WHERE A SMALL NEED IS SERVED, with the condition of each way: its own bin's newest, the spare chunk, the newest of the next fuller bin, the
--- find of the tries, or the top. One walk over the rule's cases (`mallocSmall`) on a held heap. Assumes nothing.
+-- WHERE A SMALL NEED IS SERVED, with the condition of each way: its own bin's newest, the spare chunk, the newest of the next fuller bin,
+-- the find of the tries, or the top. One walk over the rule's cases (`mallocSmall`) on a held heap. Assumes nothing.
 use mathlib.Core.Path.{_≡_, refl, sym, _∙_, ap, subst}
-use mathlib.Core.Bool.{Bool, true, false}
+use mathlib.Core.Bool.{Bool, false}
 use mathlib.Core.List.{List, [], _∷_}
 use mathlib.Core.Option.{Option, none, some}
-use mathlib.Core.Logic.{inl, inr, ⊎-elim}
+use mathlib.Core.Logic.{⊎-elim}
 use Prim.Native.Nat.{ℕ, suc, _*_, _%_, _≤_, _<_}
 use native.Mathlib.Omega.{arith}
 use lib.Dec.{leb, ltb}
@@ -19,7 +19,8 @@ use Rattle.tries.specs.Search.{Cand}
 use Rattle.rules.specs.BinOf.{smallBin, huge}
 use Rattle.rules.specs.Heap.{Heap, holdsSome, heapDv}
 use Rattle.rules.specs.Binning.{sizeAt, unbin, spareWords, dvWords}
-use Rattle.rules.specs.Malloc.{Grant, to-dv, fromBin, fromDv, fromTop, fromSpareOrTop, fromDvOrTop, firstFilled, bestFrom, fromTrie, fromFuller, fuller, ownOrNext, fromOwn, mallocSmall, mallocLarge, malloc}
+use Rattle.rules.specs.Malloc.{Grant, to-dv, fromBin, fromDv, fromTop, fromSpareOrTop, fromDvOrTop, firstFilled}
+use Rattle.rules.specs.Malloc.{bestFrom, fromFuller, fuller, ownOrNext, fromOwn, mallocSmall, mallocLarge, malloc}
 use Rattle.rules.specs.ReallocLaws.{some-none}
 use Rattle.holds.specs.Holds.{Control, Holds}
 use Rattle.holds.specs.Ops.{state}
@@ -41,7 +42,8 @@ pub data SmallWays (h : Heap) (nb : ℕ) (o : Option Grant) : Type 0 where
   at-fuller : (j x : ℕ) (xs : List ℕ) → getD (h .small) nb [] ≡ [] → dvWords h < nb → nb ≤ j → j < 32 → Empty h nb j
       → getD (h .small) j [] ≡ x ∷ xs → At o x → SmallWays h nb o
   at-tree : (k : Cand) → dvWords h < nb → Empty h nb 32 → Fits wide h 0 nb k → At o (k .at) → SmallWays h nb o
-  at-top : (k : Cand) → dvWords h < nb → Empty h nb 32 → Misses wide h 0 nb k → ((g : Grant) → o ≡ some g → g .place ≡ endOf 0 (h .chunks)) → SmallWays h nb o
+  at-top : (k : Cand) → dvWords h < nb → Empty h nb 32 → Misses wide h 0 nb k
+      → ((g : Grant) → o ≡ some g → g .place ≡ endOf 0 (h .chunks)) → SmallWays h nb o
 
 -- a list that holds nothing
 pub nothing : {A : Type 0} {x : ℕ} {xs : List ℕ} (ps : List ℕ) → ps ≡ [] → ps ≡ x ∷ xs → A
@@ -59,7 +61,8 @@ module _ (c : Control) (w : List ℕ) (h : Heap) (n : Holds wide c w h) (nb : �
 
   top-place : (g : Grant) → fromTop h nb ≡ some g → g .place ≡ endOf 0 (h .chunks)
   top-place g =
-      pick-case (λ (o : Option Grant). o ≡ some g → g .place ≡ endOf 0 (h .chunks)) (ltb nb (h .top)) (λ _ q. sym (ap place-of q)) (λ _ q. some-none (sym q))
+      pick-case (λ (o : Option Grant). o ≡ some g → g .place ≡ endOf 0 (h .chunks)) (ltb nb (h .top)) (λ _ q. sym (ap place-of q))
+      (λ _ q. some-none (sym q))
 
   -- no chunk has an odd number of words
   next-empty : (ps : List ℕ) → getD (h .small) (suc nb) [] ≡ ps → ps ≡ []
@@ -81,7 +84,8 @@ module _ (c : Control) (w : List ℕ) (h : Heap) (n : Holds wide c w h) (nb : �
 
   from-fuller : getD (h .small) nb [] ≡ [] → dvWords h < nb → SmallWays h nb (fuller wide h nb)
   from-fuller bare less =
-      subst (λ i. SmallWays h nb (fromFuller wide h (firstFilled holdsSome i 0 (h .small)) (getD (h .small) (firstFilled holdsSome i 0 (h .small)) []) nb)) (sym own-is)
+      subst (λ i. SmallWays h nb (fromFuller wide h (firstFilled holdsSome i 0 (h .small))
+      (getD (h .small) (firstFilled holdsSome i 0 (h .small)) []) nb)) (sym own-is)
       (go (getD (h .small) j []) refl)
     where
       j : ℕ
@@ -101,12 +105,20 @@ module _ (c : Control) (w : List ℕ) (h : Heap) (n : Holds wide c w h) (nb : �
       go (x ∷ xs) q = at-fuller j x xs bare less (fb .from) within empty q (bin-at j x)
         where
           within : j < 32
-          within = ⊎-elim (λ z. nothing (getD (h .small) j []) (List·getD-eq-default (h .small) [] {n = j} (omega (arith, z, n .small .marks .count))) q) (λ z. z) (le-or-lt 32 j)
+          within =
+              ⊎-elim (λ z. nothing (getD (h .small) j [])
+              (List·getD-eq-default (h .small) [] {n = j} (omega (arith, z, n .small .marks .count))) q) (λ z. z) (le-or-lt 32 j)
       go [] q =
           ⊎-elim (λ f. pick-case (SmallWays h nb) (ltb (k .size) huge)
-          (λ _. at-tree k less all f (fromBin wide to-dv h (k .at) (k .size) nb, refl, serve-place wide to-dv (unbin wide h (k .at) (k .size)) (k .at) (k .size) nb))
+          (λ _. at-tree k less all f (
+            fromBin wide to-dv h (k .at) (k .size) nb,
+            refl,
+            serve-place wide to-dv
+                (unbin wide h (k .at) (k .size)) (k .at) (k .size) nb,
+          ))
           (λ z. false-true (sym z ∙ f .found)))
-          (λ m. pick-case (SmallWays h nb) (ltb (k .size) huge) (λ z. false-true (sym (m .missed) ∙ z)) (λ _. at-top k less all m top-place))
+          (λ m. pick-case (SmallWays h nb) (ltb (k .size) huge) (λ z. false-true (sym (m .missed) ∙ z))
+          (λ _. at-top k less all m top-place))
           (small-find wide (state c w) h n nb s)
         where
           k : Cand
@@ -118,7 +130,8 @@ module _ (c : Control) (w : List ℕ) (h : Heap) (n : Holds wide c w h) (nb : �
           all : Empty h nb 32
           all i a b = empty i a (omega (arith, b, last))
 
-  from-own : (ps : List ℕ) → getD (h .small) nb [] ≡ ps → let j = ownOrNext (h .small) nb in SmallWays h nb (fromOwn wide h j (getD (h .small) j []) nb)
+  from-own : (ps : List ℕ) → getD (h .small) nb [] ≡ ps
+      → let j = ownOrNext (h .small) nb in SmallWays h nb (fromOwn wide h j (getD (h .small) j []) nb)
   from-own (x ∷ xs) q =
       let e : ownOrNext (h .small) nb ≡ nb = ap (λ (b : Bool). pick b nb (suc nb)) (ap holdsSome q) in
       subst (λ j. SmallWays h nb (fromOwn wide h j (getD (h .small) j []) nb)) (sym e)
@@ -127,7 +140,8 @@ module _ (c : Control) (w : List ℕ) (h : Heap) (n : Holds wide c w h) (nb : �
       let e : ownOrNext (h .small) nb ≡ suc nb = ap (λ (b : Bool). pick b nb (suc nb)) (ap holdsSome q) in
       subst (λ j. SmallWays h nb (fromOwn wide h j (getD (h .small) j []) nb)) (sym e)
       (subst (λ ps. SmallWays h nb (fromOwn wide h (suc nb) ps nb)) (sym (next-empty (getD (h .small) (suc nb) []) refl))
-      (pick-case (SmallWays h nb) (leb nb (dvWords h)) (λ z. from-dv q (leb-true nb (dvWords h) z)) (λ z. from-fuller q (leb-false nb (dvWords h) z))))
+      (pick-case (SmallWays h nb) (leb nb (dvWords h)) (λ z. from-dv q (leb-true nb (dvWords h) z))
+      (λ z. from-fuller q (leb-false nb (dvWords h) z))))
 
   pub small-ways : SmallWays h nb (malloc wide h nb)
   small-ways =
