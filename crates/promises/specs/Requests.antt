@@ -202,8 +202,8 @@ abbrev pub givesBack : List ℕ → List Event
 givesBack [] = []
 givesBack (off ∷ offs) = asks (Free off) ∷ givesBack offs
 
--- Two boxes have the same chunks and the same top, whatever heaps they hold, and agree word for word in the heads (the top's too), the feet
--- of free chunks and the foot word.
+-- Two boxes have the same chunks and the same top, and agree word for word in the heads (the top's too), the feet of free chunks and the foot
+-- word: g and g′ are the heaps that they hold (after a call on a held heap there is one, by `obeys`). Of bins and `dv` nothing is said.
 abbrev pub SameChunks : Box → Box → Type 0
 SameChunks s t =
     (g g′ : Heap) → Holds wide (s .control) (s .words) g → Holds wide (t .control) (t .words) g′
@@ -228,8 +228,8 @@ pub record Fit : Type 0 where
       → n ≤ 8 * length w → getD (h .small) (needWords 8 n) [] ≡ x ∷ xs → says c w (Malloc n) ≡ granted (blockOf wide x)
   -- else `dv`, if that holds it,
   pub small-dv : (c : Control) (w : List ℕ) (h : Heap) (n : ℕ) → Holds wide c w h → 8 * needWords 8 n < 256
-      → n ≤ 8 * length w → getD (h .small) (needWords 8 n) [] ≡ [] → 8 * needWords 8 n ≤ c .dvSize → says c w (Malloc n) ≡ granted
-      (c .dv + 16)
+      → n ≤ 8 * length w → getD (h .small) (needWords 8 n) [] ≡ [] → 8 * needWords 8 n ≤ c .dvSize
+      → says c w (Malloc n) ≡ granted (c .dv + 16)
   -- else the newest of the smallest fuller bin,
   pub small-fuller : (c : Control) (w : List ℕ) (h : Heap) (n j x : ℕ) (xs : List ℕ) → Holds wide c w h → 8 * needWords 8 n < 256
       → n ≤ 8 * length w → c .dvSize < 8 * needWords 8 n → needWords 8 n < j → j < 32 → Empty h (needWords 8 n) j
