@@ -19,15 +19,15 @@ use Rattle.tries.specs.Bits.{bit}
 use Rattle.tries.specs.Tree.{leaf}
 use Rattle.rules.specs.BinOf.{huge}
 use Rattle.rules.specs.Heap.{Heap, freshHeap}
-use Rattle.rules.specs.Calls.{Call, Malloc, Free, granted, isIn, answerTo}
+use Rattle.rules.specs.Calls.{Call, Malloc, Free, granted, done, isIn, answerTo}
 use Rattle.holds.specs.Holds.{Control, SpareAt}
 use Rattle.holds.specs.Rings.{ringOf}
-use Rattle.calls.specs.Histories.{Event, asks, after, heapAfter, HeldIn}
+use Rattle.calls.specs.Histories.{Event, asks, after, answers, heapAfter, HeldIn}
 use Rattle.promises.specs.Promises.{says, Allowed, LiveAt, then}
 use Rattle.promises.specs.Requests.{TreeChunk, Empty, givesBack, SameChunks}
 use Rattle.promises.specs.AllKept.{kept, requests-kept}
 use Rattle.promises.specs.RoomLaws.{one-chunk}
-use Rattle.promises.specs.GrantedBy.{tidy}
+use Rattle.promises.specs.GrantedBy.{value, tidy}
 use Rattle.promises.specs.HistoriesKept.{live-at, held, count}
 
 abbrev zeros : List ℕ
@@ -98,13 +98,16 @@ pub first : says (c three) (w three) (Malloc 24) ≡ granted 16
 unfolding needWords need roundUp treeIndex minSize huge bit
 first = ruled-so three (Malloc 24)
 
-pub smallest-tree : (s : ℕ) × ((z u : ℕ) → TreeChunk (c three) (heap three) z u → s ≤ u)
+pub smallest-tree : (z u : ℕ) → TreeChunk (c three) (heap three) z u → 34 ≤ u
 unfolding needWords need roundUp treeIndex minSize huge bit
-smallest-tree =
+smallest-tree z u tc =
     let t = requests-kept .fit .small-tree (c three) (w three) (heap three) 24 38 66 (holds three) (omega arith)
     (within three 24 (omega arith))
     (omega (arith, no-spare)) bins-bare second-tree in
-    (t .1, t .4)
+    let x : t .0 ≡ 0 = omega (arith, ap value (sym (t .3) ∙ first)) in
+    let s : t .1 ≡ 34 = ap size (one-chunk (heap three) (tidy (c three) (w three) (heap three) (holds three)) 0 (free (t .1)) (free 34)
+    (subst (λ (a : ℕ). Starts 0 (heap three .chunks) a (free (t .1))) x (t .2 .0)) (inl (refl, refl))) in
+    omega (arith, s, t .4 z u tc)
 
 -- ---- the spare chunk of 496 bytes at 32: 300 bytes get it, also beside a tree chunk of 496 bytes, but not beside one of 320
 
@@ -223,6 +226,12 @@ joined =
     requests-kept .fit .either-order (c four) (w four) (heap four) 48 24 80 24 (holds four) (live 4 (inr (inl (refl, refl))))
     (live 8 (inr (inr (inl (refl, refl)))))
     (λ z. omega (arith, z)) .1
+
+pub both-done : answers wide (then zeros four) (givesBack (48 ∷ 80 ∷ [])) ≡ done ∷ done ∷ []
+unfolding needWords need roundUp treeIndex minSize huge bit
+both-done =
+    requests-kept .fit .either-order (c four) (w four) (heap four) 48 24 80 24 (holds four) (live 4 (inr (inl (refl, refl))))
+    (live 8 (inr (inr (inl (refl, refl))))) (λ z. omega (arith, z)) .0
 
 abbrev one-way : List Event
 one-way = four ++ givesBack (16 ∷ 80 ∷ [])
