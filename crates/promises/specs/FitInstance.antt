@@ -16,7 +16,7 @@ use Rattle.index.specs.Sizes.{needWords, need, roundUp}
 use Rattle.index.specs.TreeBin.{treeIndex, minSize}
 use Rattle.tiling.specs.Tiling.{used, free, size, Starts}
 use Rattle.tries.specs.Bits.{bit}
-use Rattle.tries.specs.Tree.{leaf}
+use Rattle.tries.specs.Tree.{leaf, node}
 use Rattle.rules.specs.BinOf.{huge}
 use Rattle.rules.specs.Heap.{Heap, freshHeap}
 use Rattle.rules.specs.Calls.{Call, Malloc, Free, granted, done, isIn, answerTo}
@@ -56,30 +56,35 @@ ruled-so es k =
 within : (es : List Event) (n : ℕ) → n ≤ 2048 → n ≤ 8 * length (w es)
 within es n l = omega (arith, l, count zeros count-256 es)
 
--- ---- three tree chunks, of 272, 528 and 320 bytes at 0, 304 and 864: 280 bytes need 288, and get the third; 24 get the first
+-- ---- three tree chunks of one bin, of 272, 368 and 320 bytes at 0, 304 and 704, of which the second came first and is the root: 280 bytes
+-- need 288, so the root would do, but they get the third; 24 get the first
 
 abbrev three : List Event
 three =
-    asks (Malloc 264) ∷ asks (Malloc 24) ∷ asks (Malloc 520) ∷ asks (Malloc 24) ∷ asks (Malloc 312) ∷ asks (Malloc 24)
-    ∷ asks (Free 16) ∷ asks (Free 320) ∷ asks (Free 880) ∷ []
+    asks (Malloc 264) ∷ asks (Malloc 24) ∷ asks (Malloc 360) ∷ asks (Malloc 24) ∷ asks (Malloc 312) ∷ asks (Malloc 24)
+    ∷ asks (Free 320) ∷ asks (Free 16) ∷ asks (Free 720) ∷ []
+
+pub the-root : getD (heap three .tries) 0 leaf ≡ node 38 [] 46 (node 0 [] 34 leaf leaf) (node 88 [] 40 leaf leaf)
+unfolding needWords need roundUp treeIndex minSize huge bit
+the-root = refl
 
 no-dv : (x : ℕ) → c three .dv ≡ 8 * x → ⊥
 unfolding needWords need roundUp treeIndex minSize huge bit
 no-dv x z = omega (arith, sym z ∙ holds three .spare .0)
 
-pub third : says (c three) (w three) (Malloc 280) ≡ granted 880
+pub third : says (c three) (w three) (Malloc 280) ≡ granted 720
 unfolding needWords need roundUp treeIndex minSize huge bit
 third = ruled-so three (Malloc 280)
 
-second-tree : TreeChunk (c three) (heap three) 38 66
+second-tree : TreeChunk (c three) (heap three) 38 46
 unfolding needWords need roundUp treeIndex minSize huge bit
 second-tree = (inr (inr (inl (refl, refl))), omega arith, no-dv 38)
 
 pub no-smaller : (y t : ℕ) → TreeChunk (c three) (heap three) y t → 36 ≤ t → 40 ≤ t
 unfolding needWords need roundUp treeIndex minSize huge bit
 no-smaller y t tc l =
-    requests-kept .fit .best-fit (c three) (w three) (heap three) 280 108 40 (omega arith)
-    (holds three, inr (inr (inr (inr (inl (refl, refl))))), third) (no-dv 108) y t tc l
+    requests-kept .fit .best-fit (c three) (w three) (heap three) 280 88 40 (omega arith)
+    (holds three, inr (inr (inr (inr (inl (refl, refl))))), third) (no-dv 88) y t tc l
 
 all-bare : (m k : ℕ) → getD {A = List ℕ} (replicate m []) k [] ≡ []
 all-bare zero k = refl
@@ -101,7 +106,7 @@ first = ruled-so three (Malloc 24)
 pub smallest-tree : (z u : ℕ) → TreeChunk (c three) (heap three) z u → 34 ≤ u
 unfolding needWords need roundUp treeIndex minSize huge bit
 smallest-tree z u tc =
-    let t = requests-kept .fit .small-tree (c three) (w three) (heap three) 24 38 66 (holds three) (omega arith)
+    let t = requests-kept .fit .small-tree (c three) (w three) (heap three) 24 38 46 (holds three) (omega arith)
     (within three 24 (omega arith))
     (omega (arith, no-spare)) bins-bare second-tree in
     let x : t .0 ≡ 0 = omega (arith, ap value (sym (t .3) ∙ first)) in
