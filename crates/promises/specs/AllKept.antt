@@ -17,6 +17,7 @@ use Rattle.promises.specs.RebuildKept.{rebuild}
 use Rattle.promises.specs.SwayedKept.{swayed}
 use Rattle.promises.specs.SettledKept.{settled}
 use Rattle.promises.specs.BatchKept.{batch}
+use Rattle.promises.specs.FitKept.{fit}
 
 the-rules : TheRules
 the-rules =
@@ -64,4 +65,4 @@ kept =
 
 -- and document 02's requests
 pub requests-kept : Requests
-requests-kept = record { rebuild = rebuild; batch = batch }
+requests-kept = record { rebuild = rebuild; batch = batch; fit = fit }

@@ -141,14 +141,14 @@ module _ (c : Control) (w : List ℕ) (h : Heap) (n : Holds wide c w h) where
   -- ---- the remainder
 
   -- the spare chunk, as the record and as the heap say it
-  dv-of : (x : ℕ) → c .dv ≡ 8 * x → h .dv ≡ some x
+  pub dv-of : (x : ℕ) → c .dv ≡ 8 * x → h .dv ≡ some x
   dv-of x q = go (h .dv) refl (n .spare)
     where
       go : (d : Option ℕ) → h .dv ≡ d → SpareAt wide (c .dv) (c .dvSize) (h .chunks) d → h .dv ≡ some x
       go none z s = absurd (none-free wide x (sym q ∙ s .0))
       go (some d) z s = z ∙ ap some (omega (arith, q, s .2))
 
-  of-dv : (x : ℕ) → h .dv ≡ some x → c .dv ≡ 8 * x
+  pub of-dv : (x : ℕ) → h .dv ≡ some x → c .dv ≡ 8 * x
   of-dv x q = subst (λ d. SpareAt wide (c .dv) (c .dvSize) (h .chunks) d) q (n .spare) .2
 
   module _ (x y s : ℕ) (st : Starts 0 (h .chunks) y (free s)) (u : says c w (Malloc x) ≡ granted (blockOf wide y)) where

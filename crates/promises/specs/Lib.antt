@@ -16,8 +16,13 @@ pub mod SwayedKept
 pub mod SettledKept
 pub mod RebuildKept
 pub mod BatchKept
+pub mod GivenBack
+pub mod OrderKept
+pub mod SmallFit
+pub mod FitKept
 pub mod AllKept
 pub mod Instance
 pub mod GrantsInstance
 pub mod RebuildInstance
 pub mod BatchInstance
+pub mod FitInstance

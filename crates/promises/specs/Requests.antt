@@ -9,23 +9,27 @@ use lib.Dec.{eqb}
 use lib.ListN.{length, getD}
 use Rattle.words.specs.Logic.{pick}
 use Rattle.words.specs.Edition.{wide, noLink}
+use Rattle.index.specs.Sizes.{needWords}
+use Rattle.index.specs.TreeBin.{treeIndex}
+use Rattle.tries.specs.Tree.{leaf}
 use Rattle.tiling.specs.Tiling.{Chunk, used, free, Heads, Starts}
 use Rattle.rules.specs.Heap.{Heap, freshHeap}
-use Rattle.rules.specs.Calls.{Call, Malloc, Free, Realloc, Memalign, Answer, granted, done, bytes, refused, blockOf}
+use Rattle.rules.specs.Calls.{Call, Malloc, Free, Realloc, Memalign, Answer, granted, done, bytes, refused, isIn, blockOf}
 use Rattle.holds.specs.Holds.{Control, Holds, Sound}
-use Rattle.holds.specs.Governed.{Governed}
+use Rattle.holds.specs.Governed.{Governed, Tiled}
+use Rattle.holds.specs.Rings.{ringOf}
 use Rattle.rebuild.specs.CrateWay.{takes, gives}
 use Rattle.calls.specs.CallBytes.{refusal}
 use Rattle.calls.specs.Record.{emptyControl}
 use Rattle.calls.specs.ByValue.{ends, callA, rebuildA}
-use Rattle.calls.specs.Histories.{Box, box, Event, asks, remadeBox, after, heapAfter, setUpOn}
+use Rattle.calls.specs.Histories.{Box, box, Event, asks, remadeBox, after, answers, heapAfter, setUpOn}
 use Rattle.arena.specs.Answers.{answerOf}
 use Rattle.arena.specs.Record.{numbers}
 use Rattle.arena.specs.declared.answers.Answer as code
 use Rattle.arena.specs.declared.control.Control as arena
 use Rattle.batch.specs.BatchBytes.{ended, batchA}
 use Rattle.batch.specs.declared.Whole.{Whole}
-use Rattle.promises.specs.Promises.{Allowed, LiveAt, then, Agree}
+use Rattle.promises.specs.Promises.{says, Allowed, LiveAt, then, Serves, Agree}
 
 -- ---- (xiii) rebuild after a lost record: start is the arena's address modulo 4,096, cs its chunks in address order without the top, ts
 -- the top's
@@ -184,7 +188,68 @@ pub record Batch : Type 0 where
       → ended (x′ .refusal) (numbers (x′ .control)) v′ ys′ ≡ batchA wide c w cs xs
       → (x ≡ x′) × (v ≡ v′) × (ys ≡ ys′)
 
+-- ---- (vii) a stronger word on fit and order: h is the heap that c and w hold
+
+-- "tree chunk": the free chunk of t words at y has 256 bytes or more and is not the spare one, `dv`
+abbrev pub TreeChunk : Control → Heap → ℕ → ℕ → Type 0
+TreeChunk c h y t = Starts 0 (h .chunks) y (free t) × (256 ≤ 8 * t) × (c .dv ≡ 8 * y → ⊥)
+
+-- the small bins from i on, up to but not j, are empty; `h .small` at k lists the chunks of k words in their bin, the newest first
+abbrev pub Empty : Heap → ℕ → ℕ → Type 0
+Empty h i j = (k : ℕ) → i ≤ k → k < j → getD (h .small) k [] ≡ []
+
+-- a list of offsets, given back one after the other
+abbrev pub givesBack : List ℕ → List Event
+givesBack [] = []
+givesBack (off ∷ offs) = asks (Free off) ∷ givesBack offs
+
+-- Two boxes have the same chunks and the same top, and agree word for word in the heads (the top's too), the feet of free chunks and the foot
+-- word: g and g′ are the heaps that they hold (after a call on a held heap there is one, by `obeys`). Of bins and `dv` nothing is said.
+abbrev pub SameChunks : Box → Box → Type 0
+SameChunks s t =
+    (g g′ : Heap) → Holds wide (s .control) (s .words) g → Holds wide (t .control) (t .words) g′
+    → (g .chunks ≡ g′ .chunks) × (g .top ≡ g′ .top) × ((i : ℕ) → Tiled g i → getD (s .words) i 0 ≡ getD (t .words) i 0)
+
+pub record Fit : Type 0 where
+  -- A large request served from a tree, the chunk of s words at x, gets one such that no smaller tree chunk holds the need.
+  pub best-fit : (c : Control) (w : List ℕ) (h : Heap) (n x s : ℕ) → 256 ≤ 8 * needWords 8 n → Serves c w h n x s → (c .dv ≡ 8 * x → ⊥)
+      → (y t : ℕ) → TreeChunk c h y t → needWords 8 n ≤ t → s ≤ t
+  -- It gets `dv` exactly when `dv` holds it and no tree chunk that holds it is strictly smaller than `dv`. (More bytes than the arena's are
+  -- refused before, with 4.)
+  pub dv-exactly : (c : Control) (w : List ℕ) (h : Heap) (n : ℕ) → Holds wide c w h → 256 ≤ 8 * needWords 8 n
+      → says c w (Malloc n) ≡ granted (c .dv + 16)
+      ↔ (n ≤ 8 * length w) × (8 * needWords 8 n ≤ c .dvSize)
+      × ((y t : ℕ) → TreeChunk c h y t → needWords 8 n ≤ t → 8 * t < c .dvSize → ⊥)
+  -- Of several tree chunks of one size a request, large or small, gets the oldest: `ringOf s` lists a tree's chunks of s words, the oldest
+  -- first.
+  pub oldest : (c : Control) (w : List ℕ) (h : Heap) (n x s : ℕ) → Serves c w h n x s → TreeChunk c h x s
+      → (ps : List ℕ) × (ringOf s (getD (h .tries) (treeIndex (8 * s)) leaf) ≡ x ∷ ps)
+  -- A small request gets the newest chunk of its own size,
+  pub small-own : (c : Control) (w : List ℕ) (h : Heap) (n x : ℕ) (xs : List ℕ) → Holds wide c w h → 8 * needWords 8 n < 256
+      → n ≤ 8 * length w → getD (h .small) (needWords 8 n) [] ≡ x ∷ xs → says c w (Malloc n) ≡ granted (blockOf wide x)
+  -- else `dv`, if that holds it,
+  pub small-dv : (c : Control) (w : List ℕ) (h : Heap) (n : ℕ) → Holds wide c w h → 8 * needWords 8 n < 256
+      → n ≤ 8 * length w → getD (h .small) (needWords 8 n) [] ≡ [] → 8 * needWords 8 n ≤ c .dvSize
+      → says c w (Malloc n) ≡ granted (c .dv + 16)
+  -- else the newest of the smallest fuller bin,
+  pub small-fuller : (c : Control) (w : List ℕ) (h : Heap) (n j x : ℕ) (xs : List ℕ) → Holds wide c w h → 8 * needWords 8 n < 256
+      → n ≤ 8 * length w → c .dvSize < 8 * needWords 8 n → needWords 8 n < j → j < 32 → Empty h (needWords 8 n) j
+      → getD (h .small) j [] ≡ x ∷ xs → says c w (Malloc n) ≡ granted (blockOf wide x)
+  -- else, if there is a tree chunk, the smallest. (Else the top or 6, by `bins-first` and row 6 of document 01's table.)
+  pub small-tree : (c : Control) (w : List ℕ) (h : Heap) (n y t : ℕ) → Holds wide c w h → 8 * needWords 8 n < 256
+      → n ≤ 8 * length w → c .dvSize < 8 * needWords 8 n → Empty h (needWords 8 n) 32 → TreeChunk c h y t
+      → (x : ℕ) × (s : ℕ) × TreeChunk c h x s × (says c w (Malloc n) ≡ granted (blockOf wide x)) × ((z u : ℕ) → TreeChunk c h z u → s ≤ u)
+  -- Two different live blocks, given back in either order: both calls are done, and what stands then are the same chunks, heads and feet.
+  pub either-order : (c : Control) (w : List ℕ) (h : Heap) (off m off′ m′ : ℕ) → Holds wide c w h → LiveAt (box c w) off m
+      → LiveAt (box c w) off′ m′ → (off ≡ off′ → ⊥)
+      → (answers wide (box c w) (givesBack (off ∷ off′ ∷ [])) ≡ done ∷ done ∷ [])
+      × SameChunks (after wide (box c w) (givesBack (off ∷ off′ ∷ []))) (after wide (box c w) (givesBack (off′ ∷ off ∷ [])))
+  -- So do any two lists of the same offsets, in whatever order, those that are no live block's (any more) refused.
+  pub any-order : (c : Control) (w : List ℕ) (h : Heap) (offs offs′ : List ℕ) → Holds wide c w h → ((x : ℕ) → isIn x offs ≡ isIn x offs′)
+      → SameChunks (after wide (box c w) (givesBack offs)) (after wide (box c w) (givesBack offs′))
+
 -- ALL OF THEM.
 pub record Requests : Type 0 where
   pub rebuild : Rebuild
   pub batch : Batch
+  pub fit : Fit
