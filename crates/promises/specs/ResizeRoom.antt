@@ -136,11 +136,8 @@ module _ (c : Control) (w : List ℕ) (h : Heap) (m x s : ℕ) (r : Resizes c w 
   v : Moved (box c w) h x s m x
   v = moved (box c w) h (r .0) x s m x (r .1) (r .2)
 
-  f : Block (h .chunks) x s
+  abbrev f : Block (h .chunks) x s
   f = found c w h (r .0) (blockOf wide x) m s x refl (r .1)
-
-  xs : List Chunk
-  xs = front (f .f)
 
   ev : need % 2 ≡ 0
   ev = even wide (image c) w h (held c w h (r .0)) m (v .fits)
