@@ -24,27 +24,27 @@ same c =
 sub-k : tie.Need-sub-k
 sub-k c = code c .some
 
-add-two : tie.Need-add-two
-add-two c = search needs
-
-cast-two : tie.Need-cast-two
-cast-two c = search needs
-
-shr-two : tie.Need-shr-two
-shr-two c = search needs
-
 mul-result : tie.Need-mul-result
 mul-result c = search needs
 
-cast-result : tie.Need-cast-result
-cast-result c = record { fits = omega (arith, code c .rest) }
-
 add-result : tie.Need-add-result
-add-result c = record { fits = omega (arith, code c .small, code c .rest) }
+add-result c = search needs
+
+cast-result : tie.Need-cast-result
+cast-result c = search needs
+
+shr-result : tie.Need-shr-result
+shr-result c = search needs
+
+cast-result-2 : tie.Need-cast-result-2
+cast-result-2 c = record { fits = omega (arith, code c .rest) }
+
+add-result-2 : tie.Need-add-result-2
+add-result-2 c = record { fits = omega (arith, code c .small, code c .rest) }
 
 returns : tie.Need-returns
 returns c = code c .index ∙ same c
 
 pub compute-tree-index-spec : {M : Type 1} → statement M
 compute-tree-index-spec =
-    tie.close (tie.spec sub-k add-two cast-two shr-two mul-result cast-result add-result returns)
+    tie.close (tie.spec sub-k mul-result add-result cast-result shr-result cast-result-2 add-result-2 returns)
