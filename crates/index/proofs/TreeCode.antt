@@ -3,7 +3,7 @@
 use mathlib.Core.Path.{_≡_, refl, sym, ap, ap₂, _∙_, subst}
 use mathlib.Core.Logic.{⊎-elim}
 use Prim.Native.Nat.{ℕ, zero, suc, _+_, _-_, _*_, _/_, _%_, _^_, _≤_, _<_}
-use native.Mathlib.Nat.{le-refl, lt-of-le-of-lt, pow-suc, div-lt-iff-lt-mul, le-div-iff-mul-le, zero-lt-suc, zero-add, mod-eq-of-lt, mul-div-mul-right}
+use native.Mathlib.Nat.{le-refl, le-trans, div-le-self, lt-of-le-of-lt, pow-suc, div-lt-iff-lt-mul, le-div-iff-mul-le, zero-lt-suc, zero-add, mod-eq-of-lt, mul-div-mul-right}
 use native.Mathlib.Omega.{arith}
 use lib.Pow.{pow-pos, pow-lt, pow-mono, pow-add, shr-shr}
 use lib.Bits.{bitAnd, bitOr, or-lt, or-add-and, and-le-l, and-le-r, and-shr, and-comm}
@@ -76,6 +76,15 @@ pairs-two k s =
 
 -- ---- what the code computes of a size up to 16,777,215, in words of B bits
 
+-- whatever the two numbers are that such a size is masked with and shifted by, the steps stay below 2 ^ 32
+pub and-fits : (s x n : ℕ) → s ≤ 16777215 → bitAnd s x / n < 2 ^ 32
+and-fits s x n h = lt-of-le-of-lt (le-trans (div-le-self (bitAnd s x) n) (le-trans (and-le-l s x) h)) (omega arith)
+
+pub sum-fits : (k s x n : ℕ) → s ≤ 16777215 → 2 * (55 - k) + bitAnd s x / n < 2 ^ 32
+sum-fits k s x n h =
+    let few : bitAnd s x / n ≤ 16777215 = le-trans (div-le-self (bitAnd s x) n) (le-trans (and-le-l s x) h) in
+    omega arith
+
 abbrev place : ℕ → ℕ → ℕ
 place B s = B - 9 - leadingZeros B (bitOr s 256)
 
@@ -84,8 +93,6 @@ half B s = bitAnd s (s * 2 % 2 ^ B) / 2 ^ (place B s + 8)
 
 pub record TreeCode (B s : ℕ) : Type 0 where
   pub some : leadingZeros B (bitOr s 256) ≤ B - 9
-  pub small : place B s ≤ 15
-  pub rest : half B s < 4
   pub index : 2 * place B s + half B s ≡ treeIndex s
 
 pub tree-code : (B s : ℕ) → 25 ≤ B → s ≤ 16777215 → TreeCode B s
@@ -107,12 +114,7 @@ tree-code B s b h =
     let exact : s * 2 % 2 ^ B ≡ s * 2 = mod-eq-of-lt (omega arith) in
     let two : half B s ≡ bitAnd (s / 2 ^ (k + 7)) (s / 2 ^ (k + 7) / 2) =
     ap (λ (x : ℕ). bitAnd s x / 2 ^ (k + 8)) exact ∙ pairs-two k s in
-    record {
-      some = omega (arith, t .1);
-      small = omega arith;
-      rest = subst (λ (x : ℕ). x < 4) (sym two) (lt-of-le-of-lt (and-le-l (s / 2 ^ (k + 7)) (s / 2 ^ (k + 7) / 2)) (two-lt k s hi));
-      index = ap (λ (x : ℕ). 2 * k + x) two ∙ tree-two k s (omega arith) hi lo;
-    }
+    record { some = omega (arith, t .1); index = ap (λ (x : ℕ). 2 * k + x) two ∙ tree-two k s (omega arith) hi lo }
   where
     -- above bit 8, the highest set bit of `s | 256` is that of s
     top-kept : (j s : ℕ) → 8 < j → 2 ^ j ≤ bitOr s 256 → 2 ^ j ≤ s
