@@ -39,7 +39,7 @@ two-lt : (k s : ℕ) → s < 2 ^ (k + 9) → s / 2 ^ (k + 7) < 4
 two-lt k s h = div-lt-iff-lt-mul (pow-pos (k + 7)) .1 (omega (arith, pow-add 2 k 9, pow-add 2 k 7))
 
 -- a size from 256 on has its highest set bit at k + 8; below 256 k is 0
-pub tree-two : (k s : ℕ) → k ≤ 15 → s < 2 ^ (k + 9) → (0 < k → 2 ^ (k + 8) ≤ s)
+tree-two : (k s : ℕ) → k ≤ 15 → s < 2 ^ (k + 9) → (0 < k → 2 ^ (k + 8) ≤ s)
     → 2 * k + bitAnd (s / 2 ^ (k + 7)) (s / 2 ^ (k + 7) / 2) ≡ treeIndex s
 tree-two k s l hi lo = ⊎-elim large small (le-or-lt 256 s)
   where
