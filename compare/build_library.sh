@@ -108,8 +108,9 @@ unproved() {
         set -- "$@" --lib "${name%%/*}=$lib"
     done
     "$own/bin/rattle-cases" --toolchain "$work/toolchain" "$work/early/src/main.rt" --crate-name early "$@"
-    # the calls are inside a program here: let the doors see them, and drop its main
-    compile "$work/abi.o" -e '/@"abi::nuka_/s/^define internal /define /' -e 's/^define i32 @main()/define internal i32 @main()/'
+    # the calls are inside a program here: let the doors see them, and index_speed.sh the tree index; drop its main
+    compile "$work/abi.o" -e '/@"abi::nuka_/s/^define internal /define /' -e 's/^define i32 @main()/define internal i32 @main()/' \
+        -e '/@"index::tree_bin::compute_tree_index"/s/^define internal /define /'
     "$clang" --target="$triple" -c -O3 -fPIC "$early/doors.c" -o "$work/doors.o"
     archive "$work/abi.o" "$work/doors.o"
 }

@@ -3,16 +3,16 @@ ghost use mathlib.Core.Path.{_≡_};
 ghost use Prim.Native.Nat.{_*_, _%_, _^_, _<_};
 ghost use Rattle.index.specs.TreeBin.{minSize, treeIndex, leftShift, keyAt, side};
 
-// The bin of a size, from its leading zeros. A size is held at 0xffffff, which is in bin 31 with all above it. The
-// bit 256 stands for what is below: k is 0 there. `two` are the two highest bits of a size from 256 on, of which the first is
-// set; below 256 it is 0 or 1, so that both bits are set only in the upper half of a bin pair.
+// The bin of a size, from its leading zeros. A size is held at 0xffffff, which is in bin 31 with all above it. From 256 on
+// its highest set bit is k + 8; below 256 k is 0. Bit i of `pairs` is set where the bits i and i - 1 of the size are: at k + 8
+// that is the upper half of a pair of bins, and below 256 nothing.
 pub fn compute_tree_index(size: u64) -> u32
     ensures { λ r. ⌜ r ≡ treeIndex size ⌝ }
 {
     let held = if size > 0xffffff { 0xffffff } else { size };
     let k = 55 - u64::leading_zeros(held | 256);
-    let two = held >> (k + 7);
-    2 * k + (two & (two >> 1)) as u32
+    let pairs = held & (held << 1);
+    2 * k + (pairs >> (k + 8)) as u32
 }
 
 // The smallest size of a bin.

@@ -3,18 +3,20 @@
 -- Assumes nothing.
 use mathlib.Core.Path.{_≡_, ap, sym, _∙_}
 use mathlib.Core.Logic.{⊎-elim}
+use Prim.Native.Nat.{_≤_}
 use native.Mathlib.Omega.{arith}
 use borrow.Author.Needs.{needs}
 use Rattle.index.specs.TreeBin.{treeIndex}
-use Rattle.index.proofs.TreeCode.{TreeCode, tree-code, tree-held}
+use Rattle.index.proofs.TreeCode.{TreeCode, tree-code, tree-held, and-fits, sum-fits}
 use Rattle.index.proofs.tree_bin.compute_tree_index.Statement.{statement}
 use Rattle.index.proofs.tree_bin.compute_tree_index.Tie as tie
 
 -- where the arms have met: the size that is held
+bound : (c : tie.After-row-known) → c .before .if1 .held ≤ 16777215
+bound c = ⊎-elim (λ x. omega (arith, x .1)) (λ x. omega (arith, x .0 .left, x .1)) (c .before .if1 .came)
+
 code : (c : tie.After-row-known) → TreeCode 64 (c .before .if1 .held)
-code c =
-    tree-code 64 (c .before .if1 .held) (omega arith)
-    (⊎-elim (λ x. omega (arith, x .1)) (λ x. omega (arith, x .0 .left, x .1)) (c .before .if1 .came))
+code c = tree-code 64 (c .before .if1 .held) (omega arith) (bound c)
 
 same : (c : tie.After-row-known) → treeIndex (c .before .if1 .held) ≡ treeIndex (c .before .before .args .size)
 same c =
@@ -24,27 +26,27 @@ same c =
 sub-k : tie.Need-sub-k
 sub-k c = code c .some
 
-add-two : tie.Need-add-two
-add-two c = search needs
-
-cast-two : tie.Need-cast-two
-cast-two c = search needs
-
-shr-two : tie.Need-shr-two
-shr-two c = search needs
-
 mul-result : tie.Need-mul-result
 mul-result c = search needs
 
-cast-result : tie.Need-cast-result
-cast-result c = record { fits = omega (arith, code c .rest) }
-
 add-result : tie.Need-add-result
-add-result c = record { fits = omega (arith, code c .small, code c .rest) }
+add-result c = search needs
+
+cast-result : tie.Need-cast-result
+cast-result c = search needs
+
+shr-result : tie.Need-shr-result
+shr-result c = search needs
+
+cast-result-2 : tie.Need-cast-result-2
+cast-result-2 c = record { fits = and-fits _ _ _ (bound c) }
+
+add-result-2 : tie.Need-add-result-2
+add-result-2 c = record { fits = sum-fits _ _ _ _ (bound c) }
 
 returns : tie.Need-returns
 returns c = code c .index ∙ same c
 
 pub compute-tree-index-spec : {M : Type 1} → statement M
 compute-tree-index-spec =
-    tie.close (tie.spec sub-k add-two cast-two shr-two mul-result cast-result add-result returns)
+    tie.close (tie.spec sub-k mul-result add-result cast-result shr-result cast-result-2 add-result-2 returns)
