@@ -183,7 +183,7 @@ module _ (c : Control) (w : List ℕ) (h : Heap) (n : Holds wide c w h) where
           z .2,
           z .3 ∙ ap (λ a. 8 * a)
               (ap size (one-chunk o (heads-tidy wide (left c w (Malloc x) .words) o (d .heads)) (y + nb) (free (z .0)) (free (s - nb))
-                  (z .1)
+              (z .1)
               (rest .cut l .1))),
         )
 

@@ -243,7 +243,6 @@ pub record Grants : Type 0 where
   -- From the top the rest is the top.
   pub rest-top : (c : Control) (w : List ℕ) (h : Heap) (n : ℕ) → Holds wide c w h → says c w (Malloc n) ≡ granted (c .top + 16)
       → let d = left c w (Malloc n) .control in (d .top ≡ c .top + 8 * needWords 8 n) × (d .topSize ≡ c .topSize - 8 * needWords 8 n)
-
   -- A resize that stays: of what the block has to itself 32 bytes or more beyond the need are split off, less stays with the block.
   pub resize-split : (c : Control) (w : List ℕ) (h : Heap) (n x s t : ℕ) → Resizes c w h n x s x → OwnWords h x s (needWords 8 n) t
       → needWords 8 n + 4 ≤ t → LiveAt (left c w (Realloc (blockOf wide x) n)) (blockOf wide x) (8 * needWords 8 n - 8)
@@ -252,7 +251,7 @@ pub record Grants : Type 0 where
   -- Into the top it has just the need, and the rest is the top.
   pub resize-top : (c : Control) (w : List ℕ) (h : Heap) (n x s : ℕ) → Resizes c w h n x s x → s < needWords 8 n → 8 * (x + s) ≡ c .top
       → let d = left c w (Realloc (blockOf wide x) n) .control in LiveAt (left c w (Realloc (blockOf wide x) n)) (blockOf wide x)
-          (8 * needWords 8 n - 8)
+      (8 * needWords 8 n - 8)
       × (d .top ≡ 8 * (x + needWords 8 n)) × (d .topSize ≡ c .topSize + 8 * s - 8 * needWords 8 n)
 
 -- LENDING: the words of a live block, to its owner.

@@ -49,13 +49,13 @@ module _ (p nb : ℕ) (v : nb % 2 ≡ 0) (l : 4 ≤ nb) where
       → Starts 0 (shrink wide g p m nb .chunks) p (used (share m nb))
   shrunk g t m st fit = by
       (λ b. Starts 0 (pick b (giveBack wide (heapChunks g (retile 0 (g .chunks) p (used nb ∷ used (m - nb) ∷ []))) (p + nb)) g .chunks) p
-          (used (pick b nb m)))
+      (used (pick b nb m)))
       (leb 4 (m - nb))
       (λ z. let k : Granted g (giveBack wide (heapChunks g (retile 0 (g .chunks) p (used nb ∷ used (m - nb) ∷ []))) (p + nb)) p nb (nb + 1)
-          (λ x. x ≡ p) =
+      (λ x. x ≡ p) =
       keep-first g t p m st wide nb (m - nb) (omega arith) v l (leb-true 4 (m - nb) z) nb (nb + 1) (omega arith) (omega arith) in
       subst (λ n. Starts 0 (giveBack wide (heapChunks g (retile 0 (g .chunks) p (used nb ∷ used (m - nb) ∷ []))) (p + nb) .chunks) p
-          (used n))
+      (used n))
       (let y : k .words ≡ nb = omega (arith, k .large, k .tight) in y) (k .block))
       (λ z. st)
 
@@ -70,7 +70,7 @@ module _ (p nb : ℕ) (v : nb % 2 ≡ 0) (l : 4 ≤ nb) where
         (λ d. Starts 0 (pick d (pick (leb 4 (s + b - nb)) cut whole) (shrink wide u p (s + b) nb) .chunks) p (used (share (s + b) nb)))
         (isDv h (p + s))
         (λ _. by (λ d. Starts 0 (pick d cut whole .chunks) p (used (pick d nb (s + b)))) (leb 4 (s + b - nb))
-            (λ _. here-starts nb (free (s + b - nb) ∷ ys)) (λ _. here-starts (s + b) ys))
+        (λ _. here-starts nb (free (s + b - nb) ∷ ys)) (λ _. here-starts (s + b) ys))
         (λ _. shrunk u (all .changes .tidy) (s + b) (here-starts (s + b) ys) fit)
       where
         cut : Heap
@@ -85,7 +85,7 @@ module _ (p nb : ℕ) (v : nb % 2 ≡ 0) (l : 4 ≤ nb) where
         all : Granted h u p nb (s + b + 1) (λ x. x ≡ p)
         all =
             serve-whole h t xs (used s ∷ free b ∷ []) ys q p (s + b) place (omega arith) refl (λ x. x ≡ p)
-                (λ x z. (s, inl (z ∙ place, refl)))
+            (λ x z. (s, inl (z ∙ place, refl)))
             (λ x n st. ⊎-elim (λ z. z .0 ∙ sym place) (λ z. absurd (all-free (endOf 0 xs + s) (free b ∷ []) x n tt z)) st)
             u nb (s + b + 1) (omega (arith, l)) fit (omega arith) refl (unbin-leaves wide h (p + s) b .2)
 
@@ -108,9 +108,13 @@ module _ (p nb : ℕ) (v : nb % 2 ≡ 0) (l : 4 ≤ nb) where
     behind-free : (b : ℕ) (ys : List Chunk) → h .chunks ≡ xs ++ (used s ∷ ys) → Starts 0 (h .chunks) (p + s) (free b)
         → (zs : List Chunk) × (ys ≡ free b ∷ zs)
     behind-free b [] q st =
-        absurd (let z : ⊥ = omega
-            (arith, last h t p s nb xs place q, starts-in′ 0 (h .chunks) (p + s) (free b) st, starts-size true 0 (h .chunks) (p + s)
-            (free b) (t .chunks) st) in z)
+        absurd (let z : ⊥ = omega (
+          arith,
+          last h t p s nb xs place q,
+          starts-in′ 0 (h .chunks) (p + s) (free b) st,
+          starts-size true 0 (h .chunks) (p + s)
+              (free b) (t .chunks) st,
+        ) in z)
     behind-free b (used n ∷ ys) q st = differ n b (one-chunk h t (p + s) (used n) (free b) (next h t p s nb xs place (used n) ys q) st)
     behind-free b (free n ∷ ys) q st =
         (ys, ap (λ z. z ∷ ys) (one-chunk h t (p + s) (free n) (free b) (next h t p s nb xs place (free n) ys q) st))
@@ -120,7 +124,7 @@ module _ (p nb : ℕ) (v : nb % 2 ≡ 0) (l : 4 ≤ nb) where
     behind-none (k ∷ ys) q z =
         let n = next h t p s nb xs place k ys q in
         absurd (let y : ⊥ = omega
-            (arith, z, starts-in′ 0 (h .chunks) (p + s) k n, starts-size true 0 (h .chunks) (p + s) k (t .chunks) n) in y)
+        (arith, z, starts-in′ 0 (h .chunks) (p + s) k n, starts-size true 0 (h .chunks) (p + s) k (t .chunks) n) in y)
 
 abbrev heap-of : Option Grant → Heap → Heap
 heap-of none h = h
@@ -182,28 +186,28 @@ module _ (c : Control) (w : List ℕ) (h : Heap) (m x s : ℕ) (r : Resizes c w 
       (subst (λ (k : Heap). Starts 0 (k .chunks) x (used (share (s + b) need)))
       (sym (left-is (growFree wide h (front (f .f)) x s need b (z .0))
       (ap (resizeHere wide h (front (f .f)) x s need) (z .1)
-          ∙ grows-free x need ev le h td s (front (f .f)) (f .place) b (z .0) (u .0) fit)))
+      ∙ grows-free x need ev le h td s (front (f .f)) (f .place) b (z .0) (u .0) fit)))
       (grown x need ev le h td s (front (f .f)) (f .place) b (z .0) whole fit))
     where
       fits-in : (b : ℕ) → s < need → Starts 0 (h .chunks) (x + s) (free b) → RoomAt h x s need → need ≤ s + b
       fits-in b l st (inl a) = absurd (let y : ⊥ = omega (arith, a, l) in y)
       fits-in b l st (inr (inl a)) =
           absurd (let y : ⊥ = omega
-              (arith, a .0, starts-in′ 0 (h .chunks) (x + s) (free b) st, starts-size true 0 (h .chunks) (x + s) (free b) (td .chunks) st)
-              in y)
+          (arith, a .0, starts-in′ 0 (h .chunks) (x + s) (free b) st, starts-size true 0 (h .chunks) (x + s) (free b) (td .chunks) st)
+          in y)
       fits-in b l st (inr (inr a)) = omega (arith, a .2, ap size (one-chunk h td (x + s) (free (a .0)) (free b) (a .1) st))
 
   pub resize-split : (t : ℕ) → OwnWords h x s need t → need + 4 ≤ t
       → LiveAt (left c w (Realloc (blockOf wide x) m)) (blockOf wide x) (8 * need - 8)
   resize-split t u l =
       block-live need (subst (λ (b : Bool). Starts 0 (o .chunks) x (used (pick b need t))) (le-leb 4 (t - need) (omega (arith, l)))
-          (shared t u))
+      (shared t u))
 
   pub resize-stays : (t : ℕ) → OwnWords h x s need t → t < need + 4
       → LiveAt (left c w (Realloc (blockOf wide x) m)) (blockOf wide x) (8 * t - 8)
   resize-stays t u l =
       block-live t (subst (λ (b : Bool). Starts 0 (o .chunks) x (used (pick b need t))) (lt-leb 4 (t - need) (omega (arith, l)))
-          (shared t u))
+      (shared t u))
 
   pub resize-top : s < need → 8 * (x + s) ≡ c .top → LiveAt (left c w (Realloc (blockOf wide x) m)) (blockOf wide x) (8 * need - 8)
       × (left c w (Realloc (blockOf wide x) m) .control .top ≡ 8 * (x + need))
@@ -226,6 +230,10 @@ module _ (c : Control) (w : List ℕ) (h : Heap) (m x s : ℕ) (r : Resizes c w 
       under z (inl a) = absurd (let y : ⊥ = omega (arith, a, l) in y)
       under z (inr (inl a)) = a .1
       under z (inr (inr a)) =
-          absurd (let y : ⊥ = omega
-              (arith, z, starts-in′ 0 (h .chunks) (x + s) (free (a .0)) (a .1), starts-size true 0 (h .chunks) (x + s) (free (a .0))
-              (td .chunks) (a .1)) in y)
+          absurd (let y : ⊥ = omega (
+            arith,
+            z,
+            starts-in′ 0 (h .chunks) (x + s) (free (a .0)) (a .1),
+            starts-size true 0 (h .chunks) (x + s) (free (a .0))
+                (td .chunks) (a .1),
+          ) in y)
