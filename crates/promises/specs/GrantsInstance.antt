@@ -6,7 +6,7 @@ use mathlib.Core.Logic.{_↔_, inl, inr}
 use Prim.Native.Nat.{ℕ, _+_, _-_, _*_, _≤_, _<_, _%_}
 use native.Mathlib.Omega.{arith}
 use lib.ListN.{length, getD, set, replicate, getD-replicate}
-use Rattle.words.specs.Edition.{wide}
+use Rattle.words.specs.Edition.{wide, noLink}
 use Rattle.words.specs.Fields.{countL}
 use Rattle.index.specs.Sizes.{needWords, need, roundUp}
 use Rattle.index.specs.TreeBin.{treeIndex, minSize}
@@ -16,12 +16,12 @@ use Rattle.tries.specs.Tree.{Tree, leaf, count}
 use Rattle.rules.specs.BinOf.{huge}
 use Rattle.rules.specs.Heap.{Heap, freshHeap}
 use Rattle.rules.specs.Source.{Small}
-use Rattle.rules.specs.Calls.{Malloc, Free, Realloc, Memalign, Usable, granted, bytes, answerTo}
+use Rattle.rules.specs.Calls.{Malloc, Free, Realloc, Memalign, Usable, granted, bytes, blockOf, answerTo}
 use Rattle.holds.specs.Governed.{Linked, GovernedIn}
 use Rattle.lend.specs.LendBytes.{lent, back}
 use Rattle.calls.specs.CallBytes.{refusal, callB}
 use Rattle.calls.specs.Record.{image}
-use Rattle.calls.specs.ByValue.{ends, callA}
+use Rattle.calls.specs.ByValue.{ends, callA, setUpA}
 use Rattle.calls.specs.CallReach.{callVia, Copies}
 use Rattle.calls.specs.Histories.{Event, asks, writes, after, calls-held}
 use Rattle.arena.specs.Answers.{answerOf}
@@ -42,6 +42,9 @@ need-22 = kept .numbers .need-least 22 (omega arith)
 
 pub need-25 : (25 + 8 ≤ 8 * needWords 8 25) × (8 * needWords 8 25 < 25 + 24) × (8 * needWords 8 25 % 16 ≡ 0)
 need-25 = kept .numbers .need 25 (omega arith)
+
+pub block-48 : blockOf wide 4 ≡ 8 * 4 + 16
+block-48 = kept .numbers .block 4
 
 -- ---- which words: malloc 24 on the fresh arena leaves word 60, which lies in the top
 
@@ -286,3 +289,26 @@ pub one-outcome : (c d : arena.Control) (v : List ℕ) (a : code.Answer)
     → ends (answerOf a) (numbers d) v ≡ callA wide (numbers c) (replicate 14 0) (Malloc 24)
     → (a ≡ Refused BadCount) × (d ≡ c) × (v ≡ replicate 14 0)
 one-outcome c d v a p = kept .settled .call c d c (replicate 14 0) v (replicate 14 0) (Malloc 24) a (Refused BadCount) p (bad c)
+
+-- and of set-up: the refusal with the empty record
+abbrev pub empty : arena.Control
+empty =
+    record {
+      smallmap = 0;
+      treemap = 0;
+      smallbins = replicate 32 record { 0 = noLink wide };
+      treebins = replicate 32 record { 0 = noLink wide };
+      dv = record { 0 = noLink wide };
+      dvsize = 0;
+      top = record { 0 = noLink wide };
+      topsize = 0;
+      length = 0;
+    }
+
+bad-set-up : ends (answerOf (Refused BadCount)) (numbers empty) (replicate 14 0) ≡ setUpA wide (replicate 14 0)
+unfolding setUpA
+bad-set-up = refl
+
+pub one-set-up : (d : arena.Control) (v : List ℕ) (a : code.Answer) → ends (answerOf a) (numbers d) v ≡ setUpA wide (replicate 14 0)
+    → (a ≡ Refused BadCount) × (d ≡ empty) × (v ≡ replicate 14 0)
+one-set-up d v a p = kept .settled .set-up d empty (replicate 14 0) v (replicate 14 0) a (Refused BadCount) p bad-set-up

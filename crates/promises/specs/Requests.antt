@@ -203,8 +203,8 @@ abbrev pub givesBack : List ℕ → List Event
 givesBack [] = []
 givesBack (off ∷ offs) = asks (Free off) ∷ givesBack offs
 
--- Two boxes have the same chunks and the same top, and agree word for word in the heads (the top's too), the feet of free chunks and the foot
--- word: g and g′ are the heaps that they hold (after a call on a held heap there is one, by `obeys`). Of bins and `dv` nothing is said.
+-- Two boxes have the same chunks and the same top, and agree word for word in the heads (the top's too), the feet of free chunks and the
+-- foot word: g and g′ are the heaps that they hold (after a call on a held heap there is one, by `obeys`). Of bins and `dv` nothing is said.
 abbrev pub SameChunks : Box → Box → Type 0
 SameChunks s t =
     (g g′ : Heap) → Holds wide (s .control) (s .words) g → Holds wide (t .control) (t .words) g′
