@@ -12,7 +12,6 @@ pub trait Library {
     fn setup(&self, rec: &mut [u64], words: &mut [u64], out: &mut [u64]) -> u64;
     fn ask(&self, ask: Ask, rec: &mut [u64], words: &mut [u64], out: &mut [u64]) -> u64;
     fn rebuild(&self, rec: &mut [u64], words: &mut [u64], out: &mut [u64], start: u64) -> u64;
-
     fn batch(
         &self,
         rec: &mut [u64],

@@ -13,6 +13,45 @@ fn the_library_differs_nowhere() {
     assert!(figures.calls() >= CALLS);
 }
 
+/// What a wrong library leaves to the linked one.
+macro_rules! as_linked {
+    (setup) => {
+        fn setup(&self, rec: &mut [u64], words: &mut [u64], out: &mut [u64]) -> u64 {
+            Linked.setup(rec, words, out)
+        }
+    };
+    (ask) => {
+        fn ask(&self, ask: Ask, rec: &mut [u64], words: &mut [u64], out: &mut [u64]) -> u64 {
+            Linked.ask(ask, rec, words, out)
+        }
+    };
+    (rebuild) => {
+        fn rebuild(&self, rec: &mut [u64], words: &mut [u64], out: &mut [u64], start: u64) -> u64 {
+            Linked.rebuild(rec, words, out, start)
+        }
+    };
+    (batch) => {
+        fn batch(
+            &self,
+            rec: &mut [u64],
+            words: &mut [u64],
+            out: &mut [u64],
+            calls: &[u64],
+            answers: &mut [u64],
+        ) -> u64 {
+            Linked.batch(rec, words, out, calls, answers)
+        }
+    };
+    (sound) => {
+        fn sound(&self, rec: &[u64], words: &[u64]) -> u64 {
+            Linked.sound(rec, words)
+        }
+    };
+    ($($name:ident),+) => {
+        $(as_linked!($name);)+
+    };
+}
+
 type After = fn(Ask, &mut [u64], &mut [u64], &mut [u64]);
 
 /// The linked library with something changed behind its back after each call.
@@ -21,9 +60,7 @@ struct Wrong {
 }
 
 impl Library for Wrong {
-    fn setup(&self, rec: &mut [u64], words: &mut [u64], out: &mut [u64]) -> u64 {
-        Linked.setup(rec, words, out)
-    }
+    as_linked!(setup, rebuild, batch, sound);
 
     fn ask(&self, ask: Ask, rec: &mut [u64], words: &mut [u64], out: &mut [u64]) -> u64 {
         let returned = Linked.ask(ask, rec, words, out);
@@ -33,25 +70,6 @@ impl Library for Wrong {
         }
         (self.after)(ask, rec, words, out);
         out[0]
-    }
-
-    fn rebuild(&self, rec: &mut [u64], words: &mut [u64], out: &mut [u64], start: u64) -> u64 {
-        Linked.rebuild(rec, words, out, start)
-    }
-
-    fn batch(
-        &self,
-        rec: &mut [u64],
-        words: &mut [u64],
-        out: &mut [u64],
-        calls: &[u64],
-        answers: &mut [u64],
-    ) -> u64 {
-        Linked.batch(rec, words, out, calls, answers)
-    }
-
-    fn sound(&self, rec: &[u64], words: &[u64]) -> u64 {
-        Linked.sound(rec, words)
     }
 }
 
@@ -136,28 +154,7 @@ fn a_wrong_head() {
 struct Blind;
 
 impl Library for Blind {
-    fn setup(&self, rec: &mut [u64], words: &mut [u64], out: &mut [u64]) -> u64 {
-        Linked.setup(rec, words, out)
-    }
-
-    fn ask(&self, ask: Ask, rec: &mut [u64], words: &mut [u64], out: &mut [u64]) -> u64 {
-        Linked.ask(ask, rec, words, out)
-    }
-
-    fn rebuild(&self, rec: &mut [u64], words: &mut [u64], out: &mut [u64], start: u64) -> u64 {
-        Linked.rebuild(rec, words, out, start)
-    }
-
-    fn batch(
-        &self,
-        rec: &mut [u64],
-        words: &mut [u64],
-        out: &mut [u64],
-        calls: &[u64],
-        answers: &mut [u64],
-    ) -> u64 {
-        Linked.batch(rec, words, out, calls, answers)
-    }
+    as_linked!(setup, ask, rebuild, batch);
 
     fn sound(&self, rec: &[u64], words: &[u64]) -> u64 {
         // the spare chunk's size is taken to be true
@@ -186,13 +183,7 @@ struct WrongRebuild {
 }
 
 impl Library for WrongRebuild {
-    fn setup(&self, rec: &mut [u64], words: &mut [u64], out: &mut [u64]) -> u64 {
-        Linked.setup(rec, words, out)
-    }
-
-    fn ask(&self, ask: Ask, rec: &mut [u64], words: &mut [u64], out: &mut [u64]) -> u64 {
-        Linked.ask(ask, rec, words, out)
-    }
+    as_linked!(setup, ask, batch, sound);
 
     fn rebuild(&self, rec: &mut [u64], words: &mut [u64], out: &mut [u64], start: u64) -> u64 {
         let returned = Linked.rebuild(rec, words, out, start);
@@ -201,21 +192,6 @@ impl Library for WrongRebuild {
             return out[0];
         }
         returned
-    }
-
-    fn batch(
-        &self,
-        rec: &mut [u64],
-        words: &mut [u64],
-        out: &mut [u64],
-        calls: &[u64],
-        answers: &mut [u64],
-    ) -> u64 {
-        Linked.batch(rec, words, out, calls, answers)
-    }
-
-    fn sound(&self, rec: &[u64], words: &[u64]) -> u64 {
-        Linked.sound(rec, words)
     }
 }
 
@@ -275,17 +251,7 @@ struct WrongBatch {
 }
 
 impl Library for WrongBatch {
-    fn setup(&self, rec: &mut [u64], words: &mut [u64], out: &mut [u64]) -> u64 {
-        Linked.setup(rec, words, out)
-    }
-
-    fn ask(&self, ask: Ask, rec: &mut [u64], words: &mut [u64], out: &mut [u64]) -> u64 {
-        Linked.ask(ask, rec, words, out)
-    }
-
-    fn rebuild(&self, rec: &mut [u64], words: &mut [u64], out: &mut [u64], start: u64) -> u64 {
-        Linked.rebuild(rec, words, out, start)
-    }
+    as_linked!(setup, ask, rebuild, sound);
 
     fn batch(
         &self,
@@ -298,10 +264,6 @@ impl Library for WrongBatch {
         Linked.batch(rec, words, out, calls, answers);
         (self.after)(calls, out, answers);
         out[0]
-    }
-
-    fn sound(&self, rec: &[u64], words: &[u64]) -> u64 {
-        Linked.sound(rec, words)
     }
 }
 
