@@ -118,8 +118,8 @@ fn history(lib: &dyn Library, setting: Setting, figures: &mut Figures) -> Result
             let step = probes::probe(&mut rng, &pair);
             take(&mut pair, &mut case, figures, step)?;
         }
-        // every second history meets rebuilds, after two calls of five that are in no batch
-        if batched == 0 && setting.seed % 4 < 2 && rng.chance(40) {
+        // every second history meets rebuilds, after nine in ten of the calls that are in no batch
+        if batched == 0 && setting.seed % 4 < 2 && rng.chance(90) {
             take(&mut pair, &mut case, figures, probes::rebuild(&mut rng))?;
         }
         if batched == 1 {
