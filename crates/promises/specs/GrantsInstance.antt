@@ -197,6 +197,21 @@ unfolding needWords need roundUp
 rest-spare = kept .grants .rest-spare (then zeros small-hole .control) (then zeros small-hole .words)
     (after-all small-hole) 24 0 26 serves-24 (omega arith) (inl (omega arith))
 
+-- and of the spare chunk itself: what is left of `dv` stays it
+abbrev spare-there : List Event
+spare-there = asks (Malloc 200) ∷ asks (Malloc 24) ∷ asks (Free 16) ∷ asks (Malloc 24) ∷ []
+
+serves-by-dv : Serves (then zeros spare-there .control) (then zeros spare-there .words) (after-all spare-there) 24 4 22
+unfolding needWords need roundUp treeIndex minSize huge
+serves-by-dv = (held zeros count-128 spare-there, inr (inl (refl, refl)), ruled-so spare-there (Malloc 24))
+
+pub rest-of-dv : (left (then zeros spare-there .control) (then zeros spare-there .words) (Malloc 24) .control .dv ≡ 8 * (4 + needWords 8 24))
+    × (left (then zeros spare-there .control) (then zeros spare-there .words) (Malloc 24) .control .dvSize ≡ 8 * (22 - needWords 8 24))
+unfolding needWords need roundUp treeIndex minSize huge
+rest-of-dv =
+    kept .grants .rest-spare (then zeros spare-there .control) (then zeros spare-there .words) (after-all spare-there) 24 4 22 serves-by-dv
+    (omega arith) (inr (held zeros count-128 spare-there .spare .2))
+
 serves-185 : Serves (then zeros small-hole .control) (then zeros small-hole .words) (after-all small-hole) 185 0 26
 unfolding needWords need roundUp treeIndex minSize huge
 serves-185 = (held zeros count-128 small-hole, inl (refl, refl), ruled-so small-hole (Malloc 185))
@@ -239,6 +254,17 @@ unfolding needWords need roundUp treeIndex minSize huge
 resize-split =
     kept .grants .resize-split (then zeros two .control) (then zeros two .words) (after-all two) 100 4 40 40
     (held zeros count-128 two, inr (inl (refl, refl)), answer-48) (inl (omega arith, refl)) (omega arith)
+
+-- into the free chunk of 208 bytes behind the block at 16
+abbrev neighbour : List Event
+neighbour = asks (Malloc 24) ∷ asks (Malloc 200) ∷ asks (Malloc 24) ∷ asks (Free 48) ∷ []
+
+pub resize-joins : LiveAt (left (then zeros neighbour .control) (then zeros neighbour .words) (Realloc 16 100)) 16 (8 * needWords 8 100 - 8)
+unfolding needWords need roundUp treeIndex minSize huge
+resize-joins =
+    kept .grants .resize-split (then zeros neighbour .control) (then zeros neighbour .words) (after-all neighbour) 100 0 4 30
+    (held zeros count-128 neighbour, inl (refl, refl), ruled-so neighbour (Realloc 16 100))
+    (inr (omega arith, (26, inr (inl (refl, refl)), refl))) (omega arith)
 
 pub resize-stays : LiveAt (left (then zeros two .control) (then zeros two .words) (Realloc 48 296)) 48 312
 unfolding needWords need roundUp treeIndex minSize huge

@@ -2,13 +2,13 @@
 -- words or more
 -- are left over, else all of it; into the top just the need. By the three ways of the rule's in-place step. Assumes nothing.
 use mathlib.Core.Path.{_≡_, refl, sym, _∙_, ap, subst}
-use mathlib.Core.Bool.{Bool, true, false}
+use mathlib.Core.Bool.{Bool, true}
 use mathlib.Core.List.{List, [], _∷_, _++_}
 use mathlib.Core.Option.{Option, none, some}
 use mathlib.Core.Logic.{inl, inr, ⊎-elim}
 use Prim.Native.Nat.{ℕ, _+_, _-_, _*_, _%_, _≤_, _<_}
 use native.Mathlib.Omega.{arith}
-use lib.Dec.{leb, ltb}
+use lib.Dec.{leb}
 use borrow.Author.Tests.{leb-true, le-leb, lt-leb, lt-ltb}
 use lib.ListN.{length}
 use Rattle.words.specs.Logic.{pick, by}
@@ -27,7 +27,7 @@ use Rattle.rules.specs.Leaves.{unbin-leaves}
 use Rattle.rules.specs.Blocks.{Granted}
 use Rattle.rules.specs.Lookup.{Block}
 use Rattle.rules.specs.Tidy.{TidyHeap, differ, all-free, starts-right, starts-in′, starts-size}
-use Rattle.rules.specs.Calls.{Realloc, granted, blockOf, answerTo}
+use Rattle.rules.specs.Calls.{Realloc, blockOf, answerTo}
 use Rattle.holds.specs.Holds.{Control, Holds}
 use Rattle.calls.specs.Record.{image}
 use Rattle.calls.specs.CallObeys.{even, least}
