@@ -67,7 +67,8 @@ def table():
     # words of English that are a name somewhere, and join nothing
     known -= set("a all and any at away back below by end for from front given has head here in inner is kept last left let made more next no none not of off "
                  "on once one only or other out own past rest right run same self set some start step the then there to top two under up want with within yes".split())
-    plain = {n: OTHERWISE.get(n) or respelled(n, known) for n in names}
+    # what std declares too keeps its spelling
+    plain = {n: n if n in std else OTHERWISE.get(n) or respelled(n, known) for n in names}
     # a law that would have its function's name, or a name of std, ends in _lem
     functions = {new for n, new in plain.items() if "-" not in n}
     return {n: new + "_lem" if "-" in n and new != n and (new in functions or new in std) else new for n, new in sorted(plain.items()) if new != n}

@@ -36,9 +36,9 @@ use Rattle.treebin.specs.BinningSteps.{insert_step, unlink_step}
 
 -- ---- readings
 
-pub append_nil : (xs : List Chunk) → xs ++ [] ≡ xs
-append_nil [] = refl
-append_nil (x ∷ xs) = ap (λ z. x ∷ z) (append_nil xs)
+pub append-nil : (xs : List Chunk) → xs ++ [] ≡ xs
+append-nil [] = refl
+append-nil (x ∷ xs) = ap (λ z. x ∷ z) (append-nil xs)
 
 pub append_one : (ms : List Chunk) (c : Chunk) (zs : List Chunk) → (ms ++ (c ∷ [])) ++ zs ≡ ms ++ (c ∷ zs)
 append_one [] c zs = refl
@@ -132,15 +132,15 @@ module _ (e : Edition) (mine : Bool) (r w : List ℕ) (h : Heap) (l : List ℕ) 
   to_top b =
       let t = (behind [] b).top in
       rw (cinuse_plain e w (a + k) h.top 1 t.head t.even (omega arith), eq-eqb (enc e (a + k)) (get_or r 4 0) (sym (top_is [] b)), size, top_plain e w a (k + h.top) (omega (arith, near [] b)))
-      (subst (λ c. Held e (set_top r (enc e (end_of 0 c)) (enc e (k + h.top))) (into_top_words e w a (k + h.top)) (heap_tiles h c (k + h.top)) []) (append_nil xs)
+      (subst (λ c. Held e (set_top r (enc e (end_of 0 c)) (enc e (k + h.top))) (into_top_words e w a (k + h.top)) (heap_tiles h c (k + h.top)) []) (append-nil xs)
       (swap_top_step e r w (into_top_words e w a (k + h.top)) h l [] xs ms [] (k + h.top) chunks b.held (length-set w (a + 1) (W e * (k + h.top) + 1))
-      (subst (λ c. Heads e (into_top_words e w a (k + h.top)) c (k + h.top)) (sym (append_nil xs))
+      (subst (λ c. Heads e (into_top_words e w a (k + h.top)) c (k + h.top)) (sym (append-nil xs))
       (join_top_lem e w 0 true xs ms k h.top b.sum b.even (omega (arith, b.least)) b.before (subst (λ c. Heads e w c h.top) chunks b.held.near.heads)))
       (λ i u. get_or-set_other w (a + 1) i (W e * (k + h.top) + 1) 0 (λ z. omega arith))
       (λ x. omega (arith, b.covered x)) (λ x. omega (arith, b.covered x))))
     where
       chunks : h.chunks ≡ xs ++ ms
-      chunks = b.whole ∙ ap (λ z. xs ++ z) (append_nil ms)
+      chunks = b.whole ∙ ap (λ z. xs ++ z) (append-nil ms)
 
       size : wrap e (get_or r 5 0 + enc e k) ≡ enc e (k + h.top)
       size = ap (λ z. wrap e (z + enc e k)) (top_size_lem e r w h l b.held) ∙ small_sum e h.top k (omega (arith, near [] b)) ∙ ap (enc e) (let q : h.top + k ≡ k + h.top = omega arith in q)

@@ -1,7 +1,7 @@
 -- The rings of a trie by their sizes, whatever its shape: a find is the first of its size's ring, a newcomer goes last in the ring of its
 -- size, and a member that leaves goes from its ring; no other ring changes. By the shape's intervals. Assumes nothing.
 use Rattle.std.specs.Prelude.{◌≡◌, refl, Bool, true, false, List, [], ◌∷◌, ◌++◌, ◌⊎◌, ℕ, zero, suc, ◌+◌, ◌≤◌, ◌<◌, T, eqb}
-use Rattle.std.proofs.Common.{sym, ◌∙◌, ap, ap₂, subst, append_nil, append_assoc, inl, inr, ⊎_elim, arith, eqb-true, eq-eqb, ne_eqb}
+use Rattle.std.proofs.Common.{sym, ◌∙◌, ap, ap₂, subst, append-nil, append_assoc, inl, inr, ⊎_elim, arith, eqb-true, eq-eqb, ne_eqb}
 use Rattle.std.proofs.lemmas.Bool.{eqb-false}
 use Rattle.words.specs.Logic.{pick, pick_case, same?, false-true}
 use Rattle.words.specs.Fields.{ind, ind_eq, ind_ne, count_l, count_l_append}
@@ -80,7 +80,7 @@ newly_else z q s n = rw (ne_eqb z s n)
 
 -- where nothing is added
 kept : (z q s : ℕ) (xs ys : List ℕ) → (z ≡ s → ⊥) → xs ≡ ys → xs ≡ ys ++ newly z q s
-kept z q s xs ys n u = u ∙ sym (ap (λ v. ys ++ v) (newly_else z q s n) ∙ append_nil ys)
+kept z q s xs ys n u = u ∙ sym (ap (λ v. ys ++ v) (newly_else z q s n) ∙ append-nil ys)
 
 -- the newcomer joins the ring of a node
 joins : (z q s p : ℕ) (ps : List ℕ) (s₀ : ℕ) (l r : Tree) → s ≡ s₀ → ring_of z (node p (ps ++ q ∷ []) s₀ l r) ≡ ring_of z (node p ps s₀ l r) ++ newly z q s
@@ -90,8 +90,8 @@ joins z q s p ps s₀ l r e =
     (same? z s₀)
 
 turned : (xs ys zs : List ℕ) → (ys ≡ []) ⊎ (zs ≡ []) → (xs ++ zs) ++ ys ≡ (xs ++ ys) ++ zs
-turned xs ys zs (inl u) = ap (λ v. (xs ++ zs) ++ v) u ∙ append_nil (xs ++ zs) ∙ sym (ap (λ v. (xs ++ v) ++ zs) u ∙ ap (λ v. v ++ zs) (append_nil xs))
-turned xs ys zs (inr u) = ap (λ v. (xs ++ v) ++ ys) u ∙ ap (λ v. v ++ ys) (append_nil xs) ∙ sym (ap (λ v. (xs ++ ys) ++ v) u ∙ append_nil (xs ++ ys))
+turned xs ys zs (inl u) = ap (λ v. (xs ++ zs) ++ v) u ∙ append-nil (xs ++ zs) ∙ sym (ap (λ v. (xs ++ v) ++ zs) u ∙ ap (λ v. v ++ zs) (append-nil xs))
+turned xs ys zs (inr u) = ap (λ v. (xs ++ v) ++ ys) u ∙ ap (λ v. v ++ ys) (append-nil xs) ∙ sym (ap (λ v. (xs ++ ys) ++ v) u ∙ append-nil (xs ++ ys))
 
 pub ring_insert : (z q s k lo : ℕ) (t : Tree) → Aligned k lo → Between lo (lo + wid k) s → Shaped k lo t → ring_of z (insert q s k t) ≡ ring_of z t ++ newly z q s
 ring_insert z q s zero lo leaf al b h = refl
@@ -191,7 +191,7 @@ deep_here s (suc k) lo (node p ps s₀ leaf leaf) h n q = ring_here s p ps s₀ 
 deep_here s zero lo (node p ps s₀ (node p₁ ps₁ s₁ l₁ r₁) leaf) h n q = absurd h.1
 deep_here s (suc k) lo (node p ps s₀ (node p₁ ps₁ s₁ l₁ r₁) leaf) h n q =
     let t = node p₁ ps₁ s₁ l₁ r₁ in
-    ring_else s p ps s₀ t leaf (λ u. all_deep (λ x. x ≡ s₀ → ⊥) t tt h.2 (sym q ∙ u)) ∙ append_nil (ring_of s t) ∙ deep_here s k lo t h.4 tt q
+    ring_else s p ps s₀ t leaf (λ u. all_deep (λ x. x ≡ s₀ → ⊥) t tt h.2 (sym q ∙ u)) ∙ append-nil (ring_of s t) ∙ deep_here s k lo t h.4 tt q
 deep_here s zero lo (node p ps s₀ l (node p₂ ps₂ s₂ l₂ r₂)) h n q = absurd h.2
 deep_here s (suc k) lo (node p ps s₀ l (node p₂ ps₂ s₂ l₂ r₂)) h n q =
     let t = node p₂ ps₂ s₂ l₂ r₂ in
@@ -210,7 +210,7 @@ ring_cut s p ps s₀ k lo leaf leaf h = refl
 ring_cut s p ps s₀ zero lo (node p₁ ps₁ s₁ l₁ r₁) leaf h = absurd h.1
 ring_cut s p ps s₀ (suc k) lo (node p₁ ps₁ s₁ l₁ r₁) leaf h =
     let t = node p₁ ps₁ s₁ l₁ r₁ in
-    ⊎_elim (λ q. ring_here s (deep_p t) (deep_r t) (deep_s t) (rest t) leaf q ∙ sym (append_nil (ring_of s t) ∙ deep_here s k lo t h.4 tt q))
+    ⊎_elim (λ q. ring_here s (deep_p t) (deep_r t) (deep_s t) (rest t) leaf q ∙ sym (append-nil (ring_of s t) ∙ deep_here s k lo t h.4 tt q))
     (λ n. ring_else s (deep_p t) (deep_r t) (deep_s t) (rest t) leaf n ∙ ap (λ z. z ++ []) (sym (deep_else s t n)))
     (same? s (deep_s t))
 ring_cut s p ps s₀ zero lo l (node p₂ ps₂ s₂ l₂ r₂) h = absurd h.2

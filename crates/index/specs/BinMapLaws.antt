@@ -2,7 +2,7 @@
 -- some bins goes on doing so when one bin changes; and, for each definition, the operators of the code that give it. In terms of the digits
 -- of a number (`Bit`), and of a yes or no for each bin. Assumes nothing.
 use Rattle.std.specs.Prelude.{◌≡◌, ℕ, zero, suc, ◌+◌, ◌-◌, ◌*◌, ◌/◌, ◌%◌, ◌^◌, ◌<◌, ◌≤◌, min, max, Bool, true, false, not, ◌≢◌, ◌==◌, nat_eq, nat_lt, refl}
-use Rattle.std.proofs.Common.{sym, ap, ap₂, ◌∙◌, subst, ⊎_elim, mod-eq_of_lt, one-mul, lt_of_le_of_lt, lt_of_lt_of_le, le_antisymm, sub-le, mod-lt, zero-mul, le_of_lt, sub-add_cancel, add_comm, div-one, zero-add, add_one, arith, lt-ltb, le-ltb, ne_eqb, pow_pos, pow_mono, pow-add}
+use Rattle.std.proofs.Common.{sym, ap, ap₂, ◌∙◌, subst, ⊎_elim, mod-eq_of_lt, one-mul, lt_of_le_of_lt, lt_of_lt_of_le, le_antisymm, sub-le, mod-lt, zero-mul, le_of_lt, sub-add_cancel, add_comm, div-one, zero-add, add-one, arith, lt-ltb, le-ltb, ne_eqb, pow_pos, pow_mono, pow-add}
 use Rattle.std.proofs.Math.Nat.{mod_self, sub-zero}
 use Rattle.std.proofs.Math.Decide.{ℕ_discrete, dec_lt}
 use Rattle.std.proofs.Math.Pow.{pow-lt, shr_mod, ones_lt, high_ones}
@@ -138,7 +138,7 @@ left_places : (v x : ℕ) → 2 ^ suc v - 2 ^ suc (count_trailing_zeros v x) ≡
 left_places v x = go (dec_lt (count_trailing_zeros v x) v)
   where
     go : Dec (count_trailing_zeros v x < v) → 2 ^ suc v - 2 ^ suc (count_trailing_zeros v x) ≡ 2 ^ suc v - 2 ^ (count_trailing_zeros (suc v) x + 1)
-    go (yes l) = ap (λ (t : ℕ). 2 ^ suc v - 2 ^ t) (sym (add_one (count_trailing_zeros v x)) ∙ ap (λ (t : ℕ). t + 1) (sym (trailing_more v x l)))
+    go (yes l) = ap (λ (t : ℕ). 2 ^ suc v - 2 ^ t) (sym (add-one (count_trailing_zeros v x)) ∙ ap (λ (t : ℕ). t + 1) (sym (trailing_more v x l)))
     go (no f) =
         let a : 2 ^ suc v ≤ 2 ^ suc (count_trailing_zeros v x) = pow_mono (omega arith) in
         let b : 2 ^ suc v ≤ 2 ^ (count_trailing_zeros (suc v) x + 1) = pow_mono (omega (arith, trailing_mono v x)) in

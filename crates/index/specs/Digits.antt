@@ -2,7 +2,7 @@
 -- `count_trailing_zeros` finds. In terms of division and remainder by powers of two, for every width w. What the laws of the maps and of the way
 -- down a tree rest on. Assumes nothing.
 use Rattle.std.specs.Prelude.{◌≡◌, ℕ, zero, suc, ◌+◌, ◌-◌, ◌*◌, ◌/◌, ◌%◌, ◌^◌, ◌<◌, ◌≤◌, min, max, ◌≢◌, refl}
-use Rattle.std.proofs.Common.{sym, ap, ap₂, ◌∙◌, zero-le, suc-le-suc, div-one, pow-suc, not-suc-le-zero, le_of_suc-le-suc, zero-lt-suc, suc-add, zero-add, mul-one, one-add, add_one, arith, pow_pos, shr-shr}
+use Rattle.std.proofs.Common.{sym, ap, ap₂, ◌∙◌, zero-le, suc-le-suc, div-one, pow-suc, not-suc-le-zero, le_of_suc-le-suc, zero-lt-suc, suc-add, zero-add, mul-one, one-add, add-one, arith, pow_pos, shr-shr}
 use Rattle.std.proofs.Math.Nat.{div_self, div-eq_of_lt, zero-div}
 use Rattle.std.proofs.Math.Arith.{digits_mod, lt-one}
 use Rattle.std.proofs.Math.Pow.{pow-lt, field, mod-mod-pow}
@@ -158,6 +158,6 @@ pub trailing_low : (w n : ℕ) → count_trailing_zeros w (n % 2 ^ w) ≡ count_
 unfolding count_trailing_zeros
 trailing_low zero n = refl
 trailing_low (suc w) n =
-    let e : n % 2 ^ suc w ≡ n % 2 ^ (w + 1) = ap (λ (x : ℕ). n % 2 ^ x) (sym (add_one w)) in
+    let e : n % 2 ^ suc w ≡ n % 2 ^ (w + 1) = ap (λ (x : ℕ). n % 2 ^ x) (sym (add-one w)) in
     ap₂ (λ (d x : ℕ). under d (count_trailing_zeros w x)) (ap (λ (x : ℕ). x % 2) e ∙ mod-mod-pow n w 1) (ap (λ (x : ℕ). x / 2) e ∙ field n w 1)
     ∙ ap (under (n % 2)) (trailing_low w (n / 2))

@@ -3,7 +3,7 @@
 -- of bits of a word from 32 on. A tree's order, its depth and the best fit rest on it. Assumes nothing.
 use Rattle.std.specs.Prelude.{◌≡◌, ℕ, zero, suc, ◌+◌, ◌-◌, ◌*◌, ◌/◌, ◌%◌, ◌^◌, ◌<◌, ◌≤◌}
 use Rattle.std.proofs.Math.Path.{sym, ap, ap₂}
-use Rattle.std.proofs.Common.{◌∙◌, subst, div-add-mod', lt_of_not-le, le_of_lt, add_one, shr-shr}
+use Rattle.std.proofs.Common.{◌∙◌, subst, div-add-mod', lt_of_not-le, le_of_lt, add-one, shr-shr}
 use Rattle.std.proofs.Math.Nat.{div-eq_of_lt, div-eq_of_lt-le, div-one}
 use Rattle.std.proofs.Math.Decide.{dec_le, ℕ_discrete}
 use native.Mathlib.Omega.{arith}
@@ -20,7 +20,7 @@ side_at B i s d = side B (key_at B i s d)
 pub digit_more : (n p : ℕ) → n / 2 ^ p ≡ n / 2 ^ suc p * 2 + bit p n
 digit_more n p =
     sym (div-add-mod' (n / 2 ^ p) 2)
-    ∙ ap (λ (x : ℕ). x * 2 + bit p n) (shr-shr n p 1 ∙ ap (λ (e : ℕ). n / 2 ^ e) (add_one p))
+    ∙ ap (λ (x : ℕ). x * 2 + bit p n) (shr-shr n p 1 ∙ ap (λ (e : ℕ). n / 2 ^ e) (add-one p))
 
 -- what every size of bin i shares: the digits from i / 2 + 7 on
 pub bin_top : (s i : ℕ) → i < 31 → min_size i ≤ s → s < min_size (suc i) → s / 2 ^ (i / 2 + 7) ≡ 2 + i % 2

@@ -1,7 +1,7 @@
 -- ONE CUTTING: `records` cuts a stream as document 02 says (`records-cut`), and no second list of records does (`one_cutting`). Assumes
 -- nothing.
 use Rattle.std.specs.Prelude.{Bool, true, false, ◌&&◌, ◌⊎◌, ◌≡◌, refl, ℕ, eqb}
-use mathlib.Core.List.{List, [], ◌∷◌, ◌++◌, append_nil, cons-ne-nil, head-eq_of_cons-eq}
+use mathlib.Core.List.{List, [], ◌∷◌, ◌++◌, append-nil, cons-ne-nil, head-eq_of_cons-eq}
 use Rattle.std.proofs.Common.{inl, inr, sym, ap, ◌∙◌, eqb-true}
 use Rattle.words.specs.Logic.{pick, by, false-true}
 use Rattle.log.specs.Cutting.{is_crlf, onto, records}
@@ -29,7 +29,7 @@ onto_cuts : (b c : ℕ) (bs : List ℕ) (rs : List (List ℕ)) → is_crlf b c �
 onto_cuts b c bs [] f q = absurd (cons-ne-nil c bs q)
 onto_cuts b c bs (r ∷ rs) f (n, inl (t, q, k)) = (front b c bs r (13 ∷ 10 ∷ t) f n q, inl (t, ap (λ z. b ∷ z) q, k))
 onto_cuts b c bs (r ∷ rs) f (n, inr (q, e, g)) = (
-  front b c bs r [] f n (q ∙ sym (append_nil r)),
+  front b c bs r [] f n (q ∙ sym (append-nil r)),
   inr (ap (λ z. b ∷ z) q, e, λ z. cons-ne-nil b r z),
 )
 

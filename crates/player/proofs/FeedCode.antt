@@ -1,5 +1,5 @@
 -- The run over records and over a piece: one law for each return and for a turn of the loop. Assumes nothing.
-use Rattle.std.proofs.Common.{◌≡◌, ℕ, ◌+◌, ◌<◌, ◌≤◌, List, [], ◌∷◌, length, get_or, drop, sym, refl, ap, ◌∙◌, add_one, arith, drop_of_length-le, drop-cons}
+use Rattle.std.proofs.Common.{◌≡◌, ℕ, ◌+◌, ◌<◌, ◌≤◌, List, [], ◌∷◌, length, get_or, drop, sym, refl, ap, ◌∙◌, add-one, arith, drop_of_length-le, drop-cons}
 use Rattle.log.specs.Answers.{line_put, line_end}
 use Rattle.log.specs.Cutting.{line_after, step_at, hand_out, out_of, line_of, place_of, at}
 use Rattle.log.specs.declared.entry.Entry.{Entry}
@@ -87,7 +87,7 @@ pub feeding_turn : {piece line₀ : List ℕ} {p₀ : Place} {d₀ : Desk} {line
 unfolding line_of place_of out_of
 feeding_turn {piece} {line₀} {p₀} {d₀} {line} {p} {d} {i} {line'} {p'} {d'} f l a b c x y z =
     let n : drop i piece ≡ get_or piece i 0 ∷ drop (i + 1) piece = drop-cons piece i 0 l
-    ∙ ap (λ k. get_or piece i 0 ∷ drop k piece) (sym (add_one i)) in
+    ∙ ap (λ k. get_or piece i 0 ∷ drop k piece) (sym (add-one i)) in
     record {
       inside = omega arith;
       line_long = x ∙ f.line_long;

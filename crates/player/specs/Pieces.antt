@@ -2,7 +2,7 @@
 -- other, writes after each what stands in the buffer, and at last the end's line, is said with the contracts' own definitions (`output`).
 -- Assumes nothing.
 use Rattle.std.specs.Prelude.{◌≡◌, ℕ, suc, ◌+◌, ◌*◌, ◌^◌, ◌<◌, ◌≤◌, List, [], ◌∷◌, ◌++◌, length, take, drop}
-use mathlib.Core.List.{flatten, append_nil, append_assoc}
+use mathlib.Core.List.{flatten, append-nil, append_assoc}
 use Rattle.std.proofs.Math.Path.{refl, ap}
 use Rattle.std.proofs.Common.{sym, ◌∙◌, add-zero, arith, length-append, take_at, le-leb}
 use Rattle.std.proofs.lemmas.List.Edits.{sets, sets-eq}
@@ -102,7 +102,7 @@ pub all_wrote : (d : Desk) (k : ℕ) (s : Work) (es : List Entry) → On d k s �
 unfolding play_all lines_from
 all_wrote d k s [] o l room =
     record {
-      shows = sym (append_nil (shown d));
+      shows = sym (append-nil (shown d));
       on = record { lines = omega (arith, o.lines); room = o.room; stands = o.stands };
       far = omega arith;
       long = refl;
@@ -150,7 +150,7 @@ unfolding lines_from
 end_is d k s Nothing o l room = refl
 end_is d k s (Record e) o l room =
     (tell_wrote (cleared d) k s e (record { lines = o.lines; room = o.room; stands = o.stands }) l (omega (arith, room))).shows
-    ∙ sym (append_nil (answer_line (k + 1) (r.line_of s e).refusal (r.line_of s e).offset))
+    ∙ sym (append-nil (answer_line (k + 1) (r.line_of s e).refusal (r.line_of s e).offset))
 
 pub written_is : (m : ℕ) (line : List ℕ) (p : Place) (d : Desk) (k : ℕ) (s : Work) (xs : List (List ℕ)) → On d k s
     → 1 ≤ m → 64 * m ≤ length d.out → Short m xs → k + length (flatten xs) + 1 < 2 ^ 64

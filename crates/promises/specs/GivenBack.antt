@@ -2,7 +2,7 @@
 -- and what is free before the top joins it. Joined chunks stay joined, and marking goes by place: so blocks may be marked all at once, in
 -- any order, and joined at the end. Bins and the spare chunk play no part. Assumes nothing.
 use Rattle.std.specs.Prelude.{◌≡◌, refl, Bool, true, false, List, [], ◌∷◌, ◌++◌, ℕ, ◌+◌, ◌-◌, ◌≤◌, eqb}
-use Rattle.std.proofs.Common.{sym, ◌∙◌, ap, subst, append_nil, append_assoc, inl, inr, arith, eqb-true, eq-eqb, ne_eqb}
+use Rattle.std.proofs.Common.{sym, ◌∙◌, ap, subst, append-nil, append_assoc, inl, inr, arith, eqb-true, eq-eqb, ne_eqb}
 use Rattle.std.proofs.Math.Option.{Option, none, some}
 use Rattle.std.proofs.lemmas.Bool.{eqb-false}
 use Rattle.words.specs.Logic.{pick, pick_case, false-true}
@@ -180,7 +180,7 @@ merge_tidy pu (free s ∷ free n ∷ cs) ts t l = false-true t.3.0
 
 forward-tiles : (mine : Bool) (k : Heap) (xs : List Chunk) (a t : ℕ) (ys : List Chunk)
     → tiles_of (forward wide mine k xs a t ys) ≡ behind_of xs (join_to t ys k.top)
-forward-tiles mine k xs a t [] = ap (λ z. tiles z (t + k.top)) (sym (append_nil xs))
+forward-tiles mine k xs a t [] = ap (λ z. tiles z (t + k.top)) (sym (append-nil xs))
 forward-tiles mine k xs a t (used n ∷ ys) = same (away_leaves wide mine (heap_chunks k (xs ++ (free t ∷ used n ∷ ys))) a t)
   where
     g : Heap

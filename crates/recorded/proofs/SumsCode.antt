@@ -13,9 +13,9 @@ use Rattle.recorded.specs.Sums.{walk_turns, after, chunks_from, chunks_below, ad
 
 -- ---- one number, some words
 
-pub add_one : (s x : ℕ) → (s % 1000003 * 31 + x % 1000003) % 1000003 ≡ add_to s x
+pub add-one : (s x : ℕ) → (s % 1000003 * 31 + x % 1000003) % 1000003 ≡ add_to s x
 unfolding add_to
-add_one s x = refl
+add-one s x = refl
 
 -- the words from k to last on the sum so far are those from first to last on s
 pub record Adds (w : List ℕ) (c first last s all k : ℕ) : Type 0 where
@@ -200,4 +200,4 @@ module _ (r w : List ℕ) where
               ∙ ap (owned_from r w (left - 1) (after w c)) (z ∙ ap (λ y. add_owned w c y s) e) ∙ sym (own_on left c s l q) ∙ v.same;
         }
 
-pub ruleset laws = (not-true, not-false, add_one, words_start, words_turn, words_done, links-spare, links_small, links_large, chunk_used, chunk_free, top_sum, owned_used, owned_free, counts_start, counts_top, counts_end, counts_turn, sums_start, sums_top, sums_end, sums_turn, owns_start, owns_top, owns_end, owns_turn)
+pub ruleset laws = (not-true, not-false, add-one, words_start, words_turn, words_done, links-spare, links_small, links_large, chunk_used, chunk_free, top_sum, owned_used, owned_free, counts_start, counts_top, counts_end, counts_turn, sums_start, sums_top, sums_end, sums_turn, owns_start, owns_top, owns_end, owns_turn)

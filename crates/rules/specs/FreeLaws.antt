@@ -2,7 +2,7 @@
 -- with, a free chunk before, one after, the top, it is one retiling step: the block and its free neighbours give way to one free chunk, or to
 -- nothing at the top. By cases on what stands before it and after it. Assumes nothing.
 use Rattle.std.specs.Prelude.{◌≡◌, refl, Bool, true, false, List, [], ◌∷◌, ◌++◌, ℕ, ◌+◌, ◌-◌, ◌≤◌, ◌%◌, eqb}
-use Rattle.std.proofs.Common.{sym, ◌∙◌, ap, subst, append_nil, append_assoc, inl, inr, ⊎_elim, arith, eqb-true}
+use Rattle.std.proofs.Common.{sym, ◌∙◌, ap, subst, append-nil, append_assoc, inl, inr, ⊎_elim, arith, eqb-true}
 use Rattle.std.proofs.Math.Option.{none, some}
 use Rattle.std.proofs.lemmas.Bool.{eqb-false}
 use Rattle.words.specs.Logic.{pick, pick_case}
@@ -63,7 +63,7 @@ module _ (e : Edition) (mine : Bool) (h : Heap) (t : TidyHeap h) (xs mid : List 
   forward_changes : (k : Heap) (a : ℕ) (ys : List Chunk) → k.top ≡ h.top → h.chunks ≡ xs ++ (mid ++ ys) → Changes h (forward e mine k xs a w ys) (λ x. x ≡ p) (λ x s. ⊥)
   forward_changes k a [] same q =
       splice_changes h (heap_tiles k xs (w + k.top)) xs mid [] [] t
-      (record { was = q; now = sym (append_nil xs); sum = omega (arith, g.sum, same); fixed = inl refl; tidy = tt; rest = tt; last = g.first; least = omega (arith, (size_of h t xs mid p w g [] q).1) })
+      (record { was = q; now = sym (append-nil xs); sum = omega (arith, g.sum, same); fixed = inl refl; tidy = tt; rest = tt; last = g.first; least = omega (arith, (size_of h t xs mid p w g [] q).1) })
       (λ x. x ≡ p) (was_there h t xs mid p w g [] q) g.leaves (λ x s. ⊥) (λ x s z. z)
   forward_changes k a (used n ∷ ys) same q =
       let l = away_leaves e mine (heap_chunks k (xs ++ (free w ∷ used n ∷ ys))) a w in

@@ -2,7 +2,7 @@
 -- nothing else appears, the heap stays tidy and the total stays. From a free chunk it is one retiling step there, from the top one at the end
 -- of the chunks. By cases on where the answer comes from (`Source`), so this is of every answer that malloc has. Assumes nothing.
 use Rattle.std.specs.Prelude.{◌≡◌, refl, List, [], ◌∷◌, ◌++◌, ℕ, ◌+◌, ◌-◌, ◌≤◌, ◌<◌, ◌%◌, leb}
-use Rattle.std.proofs.Common.{sym, ◌∙◌, ap, append_nil, inl, arith, leb-true, leb-false}
+use Rattle.std.proofs.Common.{sym, ◌∙◌, ap, append-nil, inl, arith, leb-true, leb-false}
 use Rattle.std.proofs.Math.Option.{Option, some}
 use Rattle.words.specs.Logic.{pick_case}
 use Rattle.words.specs.Edition.{Edition}
@@ -48,7 +48,7 @@ serve-grants e r h h₀ x s nb t k v l fit out =
 top_grants : (h : Heap) (nb : ℕ) → TidyHeap h → nb % 2 ≡ 0 → 4 ≤ nb → nb < h.top → Granted h (heap_tiles h (h.chunks ++ (used nb ∷ [])) (h.top - nb)) (end_of 0 h.chunks) nb (nb + 4) (λ y. ⊥)
 top_grants h nb t v l fit =
     splice_grants h (heap_tiles h (h.chunks ++ (used nb ∷ [])) (h.top - nb)) h.chunks [] nb [] [] t
-    (record { was = sym (append_nil h.chunks); now = refl; sum = omega arith; fixed = inl refl; tidy = (v, l, tt); rest = tt; last = refl; least = omega (arith, t.top_even) })
+    (record { was = sym (append-nil h.chunks); now = refl; sum = omega arith; fixed = inl refl; tidy = (v, l, tt); rest = tt; last = refl; least = omega (arith, t.top_even) })
     (end_of 0 h.chunks) refl tt (λ y. ⊥) (λ y z. absurd z) (λ y n z. z) nb (nb + 4) (omega arith) (omega arith)
 
 -- ---- from wherever it comes

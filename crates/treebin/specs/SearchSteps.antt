@@ -3,7 +3,7 @@
 -- where both stop. Sizes lie far below the remainder that stands for no find. Assumes nothing.
 use Rattle.std.specs.Prelude.{◌≡◌, Bool, List, [], ◌⊎◌, eqb, leb, ltb, get_or}
 use Rattle.std.proofs.Math.Path.{refl, ap, ap₂}
-use Rattle.std.proofs.Common.{sym, ◌∙◌, subst, inr, add_one}
+use Rattle.std.proofs.Common.{sym, ◌∙◌, subst, inr, add-one}
 use Rattle.std.proofs.Math.Bool.{true, false}
 use Rattle.std.proofs.Math.Logic.{inl, ⊎_elim}
 use Prim.Native.Nat.{ℕ, zero, suc, ◌+◌, ◌-◌, ◌*◌, ◌%◌, ◌^◌, ◌≤◌, ◌<◌}
@@ -302,7 +302,7 @@ module _ (e : Edition) (r w : List ℕ) (h : Heap) (n : Held e r w h []) where
       b = trie_in e nb lo hi
 
       next : Same e nb (best_above e r w (i + 1) (enc e nb)) (best_from h (suc i) nb)
-      next = rw (add_one i) (best_above_is (suc i) nb (omega (arith, b.0)))
+      next = rw (add-one i) (best_above_is (suc i) nb (omega (arith, b.0)))
 
       -- the own tree's find, or the next
       choose : (x : Best) (c : Cand) → Same e nb x c → Same e nb (pick (eqb x.at (no_link e)) (best_above e r w (i + 1) (enc e nb)) x) (pick (ltb c.size huge) c (best_from h (suc i) nb))

@@ -1,6 +1,6 @@
 -- A member leaves its ring.
 use Rattle.std.specs.Prelude.{◌≡◌, List, [], ◌∷◌, ◌++◌, ℕ, ◌+◌, ◌≤◌}
-use Rattle.std.proofs.Common.{sym, ◌∙◌, ap, append_nil, arith}
+use Rattle.std.proofs.Common.{sym, ◌∙◌, ap, append-nil, arith}
 use Rattle.words.specs.Fields.{Mem, ind, ind_eq, ind_self, count_l}
 use Rattle.words.specs.Edition.{Edition, no_link, enc, enc_inj}
 use Rattle.tries.specs.TreeAt.{Chain, Knot, Others, RingAt, but_head, but_tail, AgreeBut, keep_knot, keep_member, keep_others, keep_chain, last, last_in, chain_last, chain_append, chain_split, chain_turn}
@@ -63,7 +63,7 @@ module _ (e : Edition) (m m' : Mem) (i : ℕ) where
           (w.next (last p xs) b ∙ u) (w.prev z u ∙ b) q.0
 
       close : (zs : List ℕ) → ((y : ℕ) → ind y p + (count_l y xs + (ind y c + count_l y zs)) ≤ 1) → Chain e m c zs p → Chain e m' p (xs ++ zs) p
-      close [] k g = rw (append_nil xs) (turned p g.0 (λ y v o. omega (arith, k y, ind_eq y p o)))
+      close [] k g = rw (append-nil xs) (turned p g.0 (λ y v o. omega (arith, k y, ind_eq y p o)))
       close (z ∷ zs) k g =
           chain_append e m' p xs z zs p (turned z g.0 (λ y v o. omega (arith, k y, ind_eq y z o)))
           (keep_chain e m m' z zs p
