@@ -3,9 +3,7 @@
 -- Assumes nothing.
 use Rattle.std.proofs.Common.{lit<, rules}
 use Rattle.index.specs.BinMapLaws.{left_word}
-use Rattle.index.proofs.bin_map.left_bits.Statement.{statement}
-use Rattle.index.proofs.bin_map.left_bits.Tie as tie
+use Rattle.index.proofs.bin_map.left_bits.Goals as goal
 
-pub left-bits-spec : {M : Type 1} → statement M
-left-bits-spec =
-    tie.close (tie.spec (λ c. search rules) (λ c. rw c.wrapping-add-u32.ensures (left_word 32 c.before.args.x (lit< tt))))
+pub returns : goal.returns
+returns c = rw c.wrapping_add_u32.ensures.value (left_word 32 c.args.x (lit< tt))

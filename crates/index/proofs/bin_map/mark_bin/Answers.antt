@@ -3,14 +3,7 @@
 use Rattle.std.proofs.Common.{lit<, rules}
 use Rattle.index.specs.Words.{one_shl_mod}
 use Rattle.index.specs.BinMapLaws.{or_marks}
-use Rattle.index.proofs.bin_map.mark_bin.Statement.{statement}
-use Rattle.index.proofs.bin_map.mark_bin.Tie as tie
+use Rattle.index.proofs.bin_map.mark_bin.Goals as goal
 
-shl-result : tie.Need-overflow-shl-result
-shl-result c = search rules
-
-returns : tie.Need-returns
+pub returns : goal.returns
 returns c = rw (one_shl_mod 32 c.args.i (lit< tt)) (or_marks _ _)
-
-pub mark-bin-spec : {M : Type 1} → statement M
-mark-bin-spec = tie.close (tie.spec shl-result returns)

@@ -3,14 +3,7 @@
 use Rattle.std.proofs.Common.{◌%◌, lit<, rules}
 use Rattle.index.specs.Words.{one_shl_mod}
 use Rattle.index.specs.BinMapLaws.{and_tests}
-use Rattle.index.proofs.bin_map.is_marked.Statement.{statement}
-use Rattle.index.proofs.bin_map.is_marked.Tie as tie
+use Rattle.index.proofs.bin_map.is_marked.Goals as goal
 
-shl-result : tie.Need-overflow-shl-result
-shl-result c = search rules
-
-returns : tie.Need-returns
+pub returns : goal.returns
 returns c = rw (one_shl_mod 32 c.args.i (lit< tt)) (and_tests (c.args.i % 32) c.args.map)
-
-pub is-marked-spec : {M : Type 1} → statement M
-is-marked-spec = tie.close (tie.spec shl-result returns)
