@@ -3,7 +3,7 @@ use crate::control::Control;
 use chunk::access::BlockOff;
 
 // When the box says no: document 01's six rows, in its order.
-#[derive(Drop)]
+#[derive(Clone, Copy)]
 pub enum Reason {
     BadCount,
     Unsound,
@@ -13,7 +13,7 @@ pub enum Reason {
     NoRoom,
 }
 
-#[derive(Drop)]
+#[derive(Clone, Copy)]
 pub enum Answer {
     Granted(BlockOff),
     Done,
@@ -21,7 +21,7 @@ pub enum Answer {
     Refused(Reason),
 }
 
-#[derive(Drop)]
+#[derive(Clone, Copy)]
 pub struct Reply {
     pub answer: Answer,
     pub control: Control,

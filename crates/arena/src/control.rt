@@ -7,7 +7,7 @@ ghost use Rattle.arena.specs.Record.{offsets, copied_up, numbers};
 use chunk::access::{ChunkOff, NONE};
 use chunk::image::{DV, DVSIZE, LENGTH, SMALLMAP, TOP, TOPSIZE, TREEMAP, smallmap, treemap};
 
-#[derive(Drop)]
+#[derive(Clone, Copy)]
 pub struct Control {
     pub smallmap: u32,
     pub treemap: u32,

@@ -8,7 +8,7 @@ use chunk::image::TOP;
 use sound::{live_block, sound, usable_size, words_ok};
 
 // Where a part of the arena starts, and how many words it has.
-#[derive(Drop)]
+#[derive(Clone, Copy)]
 pub struct Span {
     pub from: usize,
     pub words: usize,

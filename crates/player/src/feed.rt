@@ -10,7 +10,7 @@ use log::entry::Entry;
 use log::lines::{put_header, put_line};
 
 // The words of the arena at work, how many records were answered, how many bytes of lines are in the buffer.
-#[derive(Drop)]
+#[derive(Clone, Copy)]
 pub struct Run {
     pub words: usize,
     pub lines: u64,
@@ -18,7 +18,7 @@ pub struct Run {
 }
 
 // With it the place in the record at hand.
-#[derive(Drop)]
+#[derive(Clone, Copy)]
 pub struct Fed {
     pub place: Place,
     pub run: Run,

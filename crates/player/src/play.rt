@@ -13,7 +13,7 @@ use chunk::access::BlockOff;
 use log::entry::Entry;
 
 // How many words the arena at work has from now on, 0 for none; and what the record's line says.
-#[derive(Drop)]
+#[derive(Clone, Copy)]
 pub struct Played {
     pub words: usize,
     pub refusal: u64,

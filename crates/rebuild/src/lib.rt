@@ -15,7 +15,7 @@ use tiles::{chunk_at, head_is};
 use treebin::bins::insert_chunk;
 
 // The refusal's number, 0 where it is granted, and the record.
-#[derive(Drop)]
+#[derive(Clone, Copy)]
 pub struct Rebuilt {
     pub refusal: u64,
     pub image: [u64; 72],

@@ -10,7 +10,7 @@ use chunk::image::{TOP, TOPSIZE};
 use marks::{MARK_WORDS, TURNS};
 
 // A chunk's size, 0 where none fits there, and whether it is in use.
-#[derive(Drop)]
+#[derive(Clone, Copy)]
 pub struct Found {
     pub n: u64,
     pub used: bool,

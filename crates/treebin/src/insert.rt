@@ -10,7 +10,7 @@ use chunk::image::{enter_treebin, treebin_at};
 use index::tree_bin::{child_side, compute_tree_index, first_key, next_key};
 
 // A word of a node; side 0 stands for its ring.
-#[derive(Drop)]
+#[derive(Clone, Copy)]
 pub struct Place {
     pub at: ChunkOff,
     pub side: u32,

@@ -10,13 +10,13 @@ use chunk::image::{treebin_at, treemap};
 use index::bin_map::filled_from;
 use index::tree_bin::{child_side, compute_tree_index, first_key, next_key};
 
-#[derive(Drop)]
+#[derive(Clone, Copy)]
 pub struct Found {
     pub at: ChunkOff,
     pub rsize: u64,
 }
 
-#[derive(Drop)]
+#[derive(Clone, Copy)]
 pub struct Way {
     pub found: Found,
     pub rest: ChunkOff,
