@@ -132,20 +132,13 @@ def turn(folder, crate, info):
             order.append((comment, m[1], m[2][5:], rest[1:]))
             continue
         helpers.append((comment, rest))
-    loops = info["loops"]
     out = []
     # ---- invariants
     if invariants:
-        text = list(head) if False else []
         inv_out = []
         for comment, name, kind_name, rest in invariants:
             kind = "invariant" if kind_name.startswith("invariant") else "decreases"
-            tail = kind_name[len(kind):]
-            new = None
-            for lp in loops:
-                flat = json.dumps(lp)
-                new = lp
-            inv_out.append((comment, kind, tail, rest))
+            inv_out.append((comment, kind, kind_name[len(kind):], rest))
         out.append(("inv", inv_out))
     made = []
     left = 0
@@ -222,11 +215,10 @@ def main(argv):
                 loops = sorted({plain(t) for _, _, t, _ in invs})
                 for comment, kind, tail, rest in invs:
                     new = None
-                    for lp in info["loops"]:
-                        old, now = lp[0], lp[1]
-                        if plain(f"loop{tail[5:]}") == plain(old) or plain(tail.strip("-")) == plain(old):
+                    for (old, now), _ in info["loops"]:
+                        if plain(tail.strip("-")) == plain(old):
                             new = now
-                    new = new or (info["loops"][0][1] if len(info["loops"]) == 1 else tail.strip("-"))
+                    new = new or tail.strip("-")
                     body = invariant(rest, info, new, kind)
                     texts.append("\n".join(comment + [f"abbrev pub {kind}-{new} : goal.{kind}-{new}", f"{kind}-{new} l ={body}"]))
                 top = head + uses + [f"use Rattle.{crate}.proofs.{path}.Given as goal"]
