@@ -1,0 +1,12 @@
+use borrow.Author.Rules.{rules}
+use Rattle.treebin.proofs.SearchLaws.{laws}
+use Rattle.treebin.proofs.search.passed_by.Goals as goal
+
+pub returns-then-child_side-ne0 : goal.returns-then-child_side-ne0
+returns-then-child_side-ne0 c = search (laws, rules)
+
+pub returns-then-c : goal.returns-then-c
+returns-then-c c = search (laws, rules)
+
+pub returns-else-c : goal.returns-else-c
+returns-else-c c = search (laws, rules)
