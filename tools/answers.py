@@ -15,7 +15,7 @@ NAME = r"[^\s(){}.;,@\"«»]+"
 
 
 def plain(s):
-    return s.replace("_", "-")
+    return s.removesuffix("_lem").replace("_", "-")
 
 
 def blocks(text):
@@ -69,6 +69,11 @@ def paths(text, info, place, var="c"):
             if old and plain(head) == plain(old):
                 return f"{var}.{new}{clause(at, behind)}"
             at = by.get(at[1])
+        # a step inside one that the goal does not show
+        others = {p[2][1]: p for p in info["places"] if p[2][0] and plain(p[2][0]) == plain(head)}
+        if len(others) == 1:
+            new, at = others.popitem()
+            return f"{var}.{new}{clause(at, behind)}"
         return f"{var}.{head}{behind}"
 
     return re.sub(rf"(?<![^\s(){{}};,@\"«»]){var}((?:\.before)*)\.({NAME})((?:\.{NAME})*)", one, text)
@@ -168,6 +173,8 @@ def turn(folder, crate, info):
         place = by_name(info, info["asked_at"][i][1]) or place_of(info, info["asked_at"][i][0])
         body = re.sub(rf"(?m)^{re.escape(name)} (\S+)(?: κs)? =", lambda m: f"{new} {m[1]} =", body)
         body = paths(body, info, place)
+        # a test of `!f(..)` speaks of f's result now
+        body = re.sub(r"\((?:Tests\.)?not-(?:true|false) _ ([^\s()]+)\)", r"\1", body)
         made.append("\n".join(comment + [f"pub {new} : goal.{new}", body]))
     return head, uses, helpers, out, made, left, path
 
