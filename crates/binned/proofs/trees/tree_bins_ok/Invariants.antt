@@ -1,0 +1,10 @@
+use Prim.Native.Nat.{◌-◌}
+use borrow.Author.Rules.{rules}
+use Rattle.binned.proofs.TreesCode.{Trees, laws}
+use Rattle.binned.proofs.trees.tree_bins_ok.Given as goal
+
+abbrev pub invariant-loop-i : goal.invariant-loop-i
+invariant-loop-i l = Trees l.r l.w l.initial.m l.i l.m l.sizes
+
+abbrev pub decreases-loop-i : goal.decreases-loop-i
+decreases-loop-i l = 32 - l.i

@@ -1,0 +1,11 @@
+use Rattle.marks.specs.Marks.{mark_words}
+use Prim.Native.Nat.{◌-◌}
+use borrow.Author.Rules.{rules}
+use Rattle.marks.proofs.MarksCode.{Empties, laws}
+use Rattle.marks.proofs.is_empty.Given as goal
+
+abbrev pub invariant-loop-i : goal.invariant-loop-i
+invariant-loop-i l = Empties l.m l.i
+
+abbrev pub decreases-loop-i : goal.decreases-loop-i
+decreases-loop-i l = mark_words - l.i
