@@ -150,15 +150,17 @@ def turn(folder, crate, info):
     # an answer that is written right in the list, by its place there
     listed = arguments(open(proof, encoding="utf-8").read())
     listed = [a for a in listed if not re.match("invariant|decreases", a)]
+    said = open(proof, encoding="utf-8").read()
+    unfolds = re.findall(r"(?m)^pub \S+[-_]spec : .*\n(unfolding .*)$", said)
     for i, a in enumerate(listed):
         m = re.fullmatch(r"\(λ (\S+?)( κs)?\. (.*)\)", a, re.S)
         if m and i < len(needs):
-            order.append(([], needs[i][0], needs[i][1], [f"{needs[i][0]} {m[1]} = {m[3]}"]))
+            order.append(([], needs[i][0], i, [*unfolds, f"{needs[i][0]} {m[1]} = {m[3]}"]))
         elif m:
             order.append(([], a, "?", [f"-- {a}"]))
     for comment, name, need, rest in order:
-        key = plain(re.sub(r"^overflow-", "", need))
-        i = by_old.get(key, by_old.get(plain(need), by_old.get(plain(name))))
+        key = plain(re.sub(r"^overflow-", "", need)) if isinstance(need, str) else None
+        i = need if key is None else by_old.get(key, by_old.get(plain(need), by_old.get(plain(name))))
         if i is None:
             j = next((k for k, (o, n) in enumerate(needs) if plain(n) == plain(need)), None)
             i = j
