@@ -1,0 +1,30 @@
+use Rattle.live.proofs.LiveCode.{Filling, laws}
+use borrow.Author.Rules.{rules}
+use Rattle.live.proofs.fill.Goals as goal
+
+pub loop-left-init : goal.loop-left-init
+loop-left-init c = search (laws, rules)
+
+pub returns-then-p-top : goal.returns-then-p-top
+returns-then-p-top c = search (laws, rules)
+
+pub note-requires : goal.note-requires
+note-requires c = search (laws, rules)
+
+pub size-n-requires : goal.size-n-requires
+size-n-requires c = search (laws, rules)
+
+pub sum-p-requires : goal.sum-p-requires
+sum-p-requires c = search (laws, rules)
+
+pub overflow_sub-left : goal.overflow_sub-left
+overflow_sub-left c = search (laws, rules)
+
+pub loop-left-smaller : goal.loop-left-smaller
+loop-left-smaller c = search (laws, rules)
+
+pub loop-left-preserved : goal.loop-left-preserved
+loop-left-preserved c = search (laws, rules)
+
+pub returns : goal.returns
+returns c = search (laws, rules)
