@@ -60,7 +60,7 @@ fn value_of(a: Answer) -> u64
 pub fn tell(out: &mut [u64], a: Answer) -> u64
     requires { 2 ≤ length out.old }
     ensures value { result ≡ refusal (answer_of a) }
-    ensures out_after { out.new ≡ out_of out.old (answer_of a) }
+    ensures out { out.new ≡ out_of out.old (answer_of a) }
 {
     let n = number_of(a);
     let v = value_of(a);

@@ -60,8 +60,8 @@ fn hand_out(rec: &mut [u64], image: [u64; 72], out: &mut [u64], a: Answer) -> u6
     requires rec_len { length rec.old ≡ 72 }
     requires in_bounds { 2 ≤ length out.old }
     ensures value { result ≡ refusal (answer_of a) }
-    ensures rec_after { rec.new ≡ copied image }
-    ensures out_after { out.new ≡ out_of out.old (answer_of a) }
+    ensures rec { rec.new ≡ copied image }
+    ensures out { out.new ≡ out_of out.old (answer_of a) }
 {
     let mut r = image;
     r[SPARE] = 0;

@@ -20,8 +20,8 @@ use sound::words_ok;
 
 // A refused call hands back the record that it was given.
 fn hand_back(a: Answer, r: &[u64; 72], c: Control) -> Reply
-    ensures answer_value { answer_of result.answer ≡ answer_of a }
-    ensures control_value { numbers result.control ≡ handed_back (answer_of a) (numbers c) r.now }
+    ensures answer { answer_of result.answer ≡ answer_of a }
+    ensures control { numbers result.control ≡ handed_back (answer_of a) (numbers c) r.now }
 {
     match a {
         Answer::Granted(_) => Reply {
@@ -105,9 +105,9 @@ pub fn usable(c: Control, w: &[u64], b: BlockOff) -> Answer
 
 // The words of a live block as a part of the arena, empty exactly where `usable` refuses.
 pub fn lend<'a>(c: Control, w: &'a mut [u64], b: BlockOff) -> &'a mut [u64]
-    ensures result_value { result.now ≡ lent wide (image (numbers c)) w.old b.0 }
-    ensures ref_ptr_value { result.ref_ptr.0 ≡ w.entry.ref_ptr.0 }
-    ensures ref_ptr_value_2 { result.ref_ptr.1 ≡ lent_from wide (image (numbers c)) w.old b.0 * 8 + w.entry.ref_ptr.1 }
+    ensures words { result.now ≡ lent wide (image (numbers c)) w.old b.0 }
+    ensures block { result.ref_ptr.0 ≡ w.entry.ref_ptr.0 }
+    ensures start { result.ref_ptr.1 ≡ lent_from wide (image (numbers c)) w.old b.0 * 8 + w.entry.ref_ptr.1 }
 {
     let r = image_of(c);
     lend::lend(&r, w, b)

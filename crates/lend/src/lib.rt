@@ -29,8 +29,8 @@ fn lends(r: &[u64; 72], w: &[u64], b: BlockOff) -> bool
 
 // The part that is lent.
 pub fn part(r: &[u64; 72], w: &[u64], b: BlockOff) -> Span
-    ensures from_value { result.from ≡ lent_from wide r.now w.now b.0 }
-    ensures words_value { result.words ≡ lent_words wide r.now w.now b.0 }
+    ensures from { result.from ≡ lent_from wide r.now w.now b.0 }
+    ensures words { result.words ≡ lent_words wide r.now w.now b.0 }
 {
     if !lends(r, w, b) {
         return Span { from: 0, words: 0 };
@@ -49,9 +49,9 @@ pub fn part(r: &[u64; 72], w: &[u64], b: BlockOff) -> Span
 
 // The owner's words, lent: empty where the call refuses. The clauses on `ptr` say where they lie in the arena.
 pub fn lend<'a>(r: &[u64; 72], w: &'a mut [u64], b: BlockOff) -> &'a mut [u64]
-    ensures result_value { result.now ≡ lent wide r.now w.old b.0 }
-    ensures ref_ptr_value { result.ref_ptr.0 ≡ w.entry.ref_ptr.0 }
-    ensures ref_ptr_value_2 { result.ref_ptr.1 ≡ lent_from wide r.now w.old b.0 * 8 + w.entry.ref_ptr.1 }
+    ensures words { result.now ≡ lent wide r.now w.old b.0 }
+    ensures block { result.ref_ptr.0 ≡ w.entry.ref_ptr.0 }
+    ensures start { result.ref_ptr.1 ≡ lent_from wide r.now w.old b.0 * 8 + w.entry.ref_ptr.1 }
 {
     let p = part(r, w, b);
     let from = p.from;

@@ -26,7 +26,7 @@ pub struct Fed {
 
 // Before the first byte the header is in the buffer.
 pub fn start(out: &mut [u8]) -> Fed
-    ensures out_after { out.new ≡ header_put out.old }
+    ensures out { out.new ≡ header_put out.old }
     ensures value { result ≡ fresh (header_end out.old) }
 {
     let at = put_header(out);
@@ -78,9 +78,9 @@ fn hand_out(g: Got, run: Run, r: &mut [u64; 72], w: &mut [u64], out: &mut [u8]) 
 
 // One byte.
 fn take(b: u8, from: Fed, line: &mut [u8], r: &mut [u64; 72], w: &mut [u64], out: &mut [u8]) -> Fed
-    ensures line_after { line.new ≡ line_after line.old from.place b }
-    ensures place_value { result.place ≡ (step_at line.old from.place b).place }
-    ensures out_after { desk result.run r.new w.new out.new
+    ensures line { line.new ≡ line_after line.old from.place b }
+    ensures place { result.place ≡ (step_at line.old from.place b).place }
+    ensures out { desk result.run r.new w.new out.new
         ≡ handed_out (desk from.run r.old w.old out.old)
         (step_at line.old from.place b).got }
 {
@@ -105,9 +105,9 @@ pub fn feed(
     w: &mut [u64],
     out: &mut [u8],
 ) -> Fed
-    ensures line_after { line.new ≡ line_of line.old from.place piece.now }
-    ensures place_value { result.place ≡ place_of line.old from.place piece.now }
-    ensures out_after { desk result.run r.new w.new out.new
+    ensures line { line.new ≡ line_of line.old from.place piece.now }
+    ensures place { result.place ≡ place_of line.old from.place piece.now }
+    ensures out { desk result.run r.new w.new out.new
         ≡ play_all (desk (emptied from.run) r.old w.old out.old)
         (out_of line.old from.place piece.now) }
 {
@@ -127,8 +127,8 @@ pub fn feed(
 
 // The log has ended: the last record may lack its CRLF.
 pub fn end(from: Fed, line: &mut [u8], r: &mut [u64; 72], w: &mut [u64], out: &mut [u8]) -> Run
-    ensures line_after { line.new ≡ line_at_end line.old from.place }
-    ensures out_after { desk result r.new w.new out.new
+    ensures line { line.new ≡ line_at_end line.old from.place }
+    ensures out { desk result r.new w.new out.new
         ≡ handed_out (desk (emptied from.run) r.old w.old out.old)
         (ending line.old from.place) }
 {

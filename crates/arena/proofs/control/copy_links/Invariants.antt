@@ -1,0 +1,14 @@
+use mathlib.Core.Path.{◌≡◌, refl, ◌∙◌, ap}
+use Prim.Native.Nat.{◌+◌, ◌-◌, ◌≤◌}
+use native.Mathlib.Omega.{arith}
+use lib.ListN.{get_or, set}
+use borrow.Author.Rules.{rules}
+use Rattle.arena.specs.Record.{offsets, copied_up}
+use Rattle.arena.proofs.RecordCode.{copied_next, copied_all}
+use Rattle.arena.proofs.control.copy_links.Given as goal
+
+abbrev pub invariant-loop-i : goal.invariant-loop-i
+invariant-loop-i l = (l.i ≤ 32) × (l.r ≡ copied_up l.initial.r l.from (offsets l.links) l.i)
+
+abbrev pub decreases-loop-i : goal.decreases-loop-i
+decreases-loop-i l = 32 - l.i
