@@ -176,7 +176,7 @@ def turn(folder, crate, info):
         body = re.sub(rf"(?m)^{re.escape(name)} (\S+)(?: κs)? =", lambda m: f"{new} {m[1]} =", body)
         body = paths(body, info, place)
         # a test of `!f(..)` speaks of f's result now
-        body = re.sub(r"\((?:Tests\.)?not-(?:true|false) _ ([^\s()]+)\)", r"\1", body)
+        body = re.sub(r"\((?:Tests\.)?not-(?:true|false) _\s+([^\s()]+)\)", r"\1", body)
         made.append("\n".join(comment + [f"pub {new} : goal.{new}", body]))
     return head, uses, helpers, out, made, left, path
 

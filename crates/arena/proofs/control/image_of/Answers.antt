@@ -2,6 +2,7 @@ use Rattle.arena.proofs.RecordCode.{image-links}
 use mathlib.Core.Path.{sym, ◌∙◌}
 use lib.ListN.{length-map}
 use mir.Facts.{Fits-lt-pow}
+use Rattle.std.proofs.Common.{arith}
 use Rattle.chunk.specs.contracts.access.ChunkOff as off
 use borrow.Author.Rules.{rules}
 use Rattle.arena.proofs.control.image_of.Goals as goal
@@ -9,9 +10,8 @@ use Rattle.arena.proofs.control.image_of.Goals as goal
 pub returns : goal.returns
 returns c =
     let r = c.args.c in
-    let maps = c.struct_known-1.given in
     let links = c.well_formed.0.1.1.1.1 in
     image-links r
     links.0.1.0.1
     links.1.0.1.0.1
-    (Fits-lt-pow maps.0) (Fits-lt-pow maps.1.0) c.copy_links.ensures c.copy_links-2.ensures
+    (omega arith) (omega arith) c.copy_links.ensures c.copy_links-2.ensures

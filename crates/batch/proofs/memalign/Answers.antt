@@ -1,0 +1,12 @@
+use Rattle.batch.proofs.BatchCode.{laws}
+use borrow.Author.Rules.{rules}
+use Rattle.batch.proofs.memalign.Goals as goal
+
+pub returns-then-not-alignment_ok : goal.returns-then-not-alignment_ok
+returns-then-not-alignment_ok c = search (laws, rules)
+
+pub returns-then-too_many : goal.returns-then-too_many
+returns-then-too_many c = search (laws, rules)
+
+pub returns : goal.returns
+returns c = search (laws, rules)
