@@ -58,7 +58,7 @@ fn copy_out(r: &[u64; 72], rec: &mut [u64])
 // The record's words and the answer's, written: the eighth word stays 0.
 fn hand_out(rec: &mut [u64], image: [u64; 72], out: &mut [u64], a: Answer) -> u64
     requires rec_len { length rec.old ≡ 72 }
-    requires in_bounds { 2 ≤ length out.old }
+    requires out_len { 2 ≤ length out.old }
     ensures value { result ≡ refusal (answer_of a) }
     ensures rec { rec.new ≡ copied image }
     ensures out { out.new ≡ out_of out.old (answer_of a) }

@@ -1,0 +1,33 @@
+use mathlib.Core.Path.{◌≡◌, refl}
+use Prim.Native.Nat.{◌-◌, ◌≤◌}
+use native.Mathlib.Omega.{arith}
+use lib.ListN.{length, length-set}
+use Rattle.abi.proofs.AbiCode.{Agree, agree_next, agree_all}
+use Rattle.abi.proofs.image_in.Goals as goal
+
+pub loop-i-init : goal.loop-i-init
+loop-i-init c = (omega arith, refl, λ k u. absurd (let z : ⊥ = omega (arith, u) in z))
+
+pub offset_bounds-rec-i : goal.offset_bounds-rec-i
+offset_bounds-rec-i c = omega arith
+
+pub bounds-rec-i : goal.bounds-rec-i
+bounds-rec-i c = omega arith
+
+pub offset_bounds-r-i : goal.offset_bounds-r-i
+offset_bounds-r-i c = omega arith
+
+pub bounds-r-i : goal.bounds-r-i
+bounds-r-i c = omega arith
+
+pub overflow_add-i : goal.overflow_add-i
+overflow_add-i c = omega arith
+
+pub loop-i-smaller : goal.loop-i-smaller
+loop-i-smaller c = omega arith
+
+pub loop-i-preserved : goal.loop-i-preserved
+loop-i-preserved c = (omega arith, simp length-set c.loop-i.invariant.1, agree_next c.loop-i.r c.args.rec.now c.loop-i.i (omega (arith, c.loop-i.invariant.1)) c.loop-i.invariant.2)
+
+pub returns : goal.returns
+returns c = agree_all c.loop-i.r c.args.rec.now c.loop-i.i (omega arith) c.loop-i.invariant.1 c.requires c.loop-i.invariant.2

@@ -1,0 +1,21 @@
+use borrow.Author.Tests.{not-true, not-false}
+use Rattle.abi.proofs.AbiCode.{lent_72, lent_2, rebuild_lost, rebuild_said}
+use borrow.Author.Rules.{rules}
+use Rattle.abi.proofs.nuka_rebuild.Goals as goal
+
+pub returns-then-not-lent_ok : goal.returns-then-not-lent_ok
+returns-then-not-lent_ok c = rebuild_lost _ _ _ c.lent_ok.ensures _ c.if-not-lent_ok.true
+
+pub hand_out-requires : goal.hand_out-requires
+hand_out-requires c = record {
+  rec_len = lent_72 _ _ c.lent_ok.ensures c.if-not-lent_ok.false;
+  out_len = lent_2 _ _ c.lent_ok.ensures c.if-not-lent_ok.false;
+}
+
+pub returns : goal.returns
+returns c = rebuild_said _ _ _
+    c.lent_ok.ensures _
+    c.if-not-lent_ok.false _
+    _ _ c.rebuild-x.ensures
+    c.image_of.ensures c.hand_out.ensures.value
+    c.hand_out.ensures.rec c.hand_out.ensures.out
