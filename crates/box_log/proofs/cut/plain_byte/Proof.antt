@@ -1,0 +1,13 @@
+use Rattle.box_log.proofs.CutCode.{laws}
+use borrow.Author.Rules.{rules}
+use Rattle.box_log.proofs.cut.plain_byte.Statement.{statement}
+use Rattle.box_log.proofs.cut.plain_byte.Tie as tie
+
+pub plain-byte-spec : {M : Type 1} → statement M
+plain-byte-spec =
+    tie.close
+    (tie.spec
+    (λ c. search (laws, rules))
+    (λ c κs. search rules)
+    (λ c. search rules)
+    (λ c. search (laws, rules)))
