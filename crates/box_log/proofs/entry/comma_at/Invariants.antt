@@ -1,0 +1,11 @@
+use lib.ListN.{length}
+use Prim.Native.Nat.{◌-◌}
+use Rattle.box_log.proofs.EntryCode.{laws, Seeking}
+use borrow.Author.Rules.{rules}
+use Rattle.box_log.proofs.entry.comma_at.Given as goal
+
+abbrev pub invariant-loop-i : goal.invariant-loop-i
+invariant-loop-i l = Seeking l.s l.i
+
+abbrev pub decreases-loop-i : goal.decreases-loop-i
+decreases-loop-i l = length l.s - l.i
