@@ -1,7 +1,6 @@
 use lib.ListN.{length}
 use Prim.Native.Nat.{◌-◌}
-use Rattle.box_log.proofs.EntryCode.{laws, Reading}
-use borrow.Author.Rules.{rules}
+use Rattle.box_log.proofs.EntryCode.{Reading}
 use Rattle.box_log.proofs.entry.number.Given as goal
 
 abbrev pub invariant-loop-i : goal.invariant-loop-i

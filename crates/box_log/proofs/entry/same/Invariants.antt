@@ -1,7 +1,6 @@
 use lib.ListN.{length}
 use Prim.Native.Nat.{◌-◌}
-use Rattle.box_log.proofs.EntryCode.{laws, Agreeing}
-use borrow.Author.Rules.{rules}
+use Rattle.box_log.proofs.EntryCode.{Agreeing}
 use Rattle.box_log.proofs.entry.same.Given as goal
 
 abbrev pub invariant-loop-i : goal.invariant-loop-i

@@ -1,7 +1,6 @@
 use lib.ListN.{length}
 use Prim.Native.Nat.{◌-◌}
-use Rattle.box_log.proofs.LinesCode.{laws, Storing}
-use borrow.Author.Rules.{rules}
+use Rattle.box_log.proofs.LinesCode.{Storing}
 use Rattle.box_log.proofs.lines.put_text.Given as goal
 
 abbrev pub invariant-loop-i : goal.invariant-loop-i
