@@ -15,19 +15,6 @@ use Rattle.box_log.specs.declared.cut.Place.{Place}
 use Rattle.box_log.specs.declared.cut.Step.{Step}
 use Rattle.box_log.specs.declared.cut.Got.TheVariants.{Nothing, Record}
 
--- past its end a line takes no byte
-pub keep_past : (l : List ℕ) (i b : ℕ) → length l ≤ i → l ≡ set l i b
-keep_past [] i b p = refl
-keep_past (x ∷ xs) zero b p = absurd (let z : ⊥ = omega arith in z)
-keep_past (x ∷ xs) (suc i) b p = ap (λ r. x ∷ r) (keep_past xs i b (omega arith))
-
-module _ (held : ℕ) where
-  pub more_in : held < 65 → held + 1 ≡ more held
-  more_in p = sym (rw (lt-ltb held 65 p) refl)
-
-  pub more_out : 65 ≤ held → 65 ≡ more held
-  more_out p = sym (rw (le-ltb held 65 p) refl)
-
 module _ (line : List ℕ) (held : ℕ) where
   pub line_long : length line < held → Odd ≡ read_line line held
   unfolding read_line
@@ -109,9 +96,6 @@ pub ruleset laws = (
   length-take-le,
   not-true,
   not-false,
-  keep_past,
-  more_in,
-  more_out,
   line_long,
   line_reads,
   plain_line_cr,

@@ -94,31 +94,6 @@ pub record Seeking (s : List ℕ) (i : ℕ) : Type 0 where
   pub inside : i ≤ length s
   pub same : i + comma_at (drop i s) ≡ comma_at s
 
-pub seeking_start : (s : List ℕ) → Seeking s 0
-seeking_start s = record { inside = omega arith; same = omega arith }
-
-pub seeking_turn : {s : List ℕ} {i : ℕ} → Seeking s i → i < length s → (get_or s i 0 ≡ comma → ⊥) → Seeking s (i + 1)
-seeking_turn {s} {i} r l n =
-    let h : comma_at (drop i s) ≡ suc (comma_at (drop (suc i) s)) = ap comma_at (drop-cons s i 0 l) ∙ rw (ne_eqb (get_or s i 0) comma n) refl in
-    let k : i + comma_at (drop i s) ≡ comma_at s = r.same in
-    record {
-      inside = omega arith;
-      same = ap (λ j. i + 1 + comma_at (drop j s)) (add-one i)
-          ∙ (let z : i + 1 + comma_at (drop (suc i) s) ≡ comma_at s = omega arith in z);
-    }
-
-pub seeking_found : {s : List ℕ} {i : ℕ} → Seeking s i → i < length s → get_or s i 0 ≡ comma → i ≡ comma_at s
-seeking_found {s} {i} r l q =
-    let h : comma_at (drop i s) ≡ 0 = ap comma_at (drop-cons s i 0 l) ∙ rw (eq-eqb (get_or s i 0) comma q) refl in
-    let k : i + comma_at (drop i s) ≡ comma_at s = r.same in
-    omega arith
-
-pub seeking_end : {s : List ℕ} {i : ℕ} → Seeking s i → length s ≤ i → i ≡ comma_at s
-seeking_end {s} {i} r l =
-    let h : comma_at (drop i s) ≡ 0 = ap comma_at (drop_of_length-le s l) in
-    let k : i + comma_at (drop i s) ≡ comma_at s = r.same in
-    omega arith
-
 -- ---- same
 
 pub record Agreeing (a b : List ℕ) (i : ℕ) : Type 0 where
@@ -135,33 +110,6 @@ same_lengths (x ∷ xs) (y ∷ ys) n = go (eqb x y) (same_lengths xs ys (λ q. n
     go : (t : Bool) {u : Bool} → false ≡ u → false ≡ t && u
     go true q = q
     go false q = refl
-
-pub agreeing_start : {a b : List ℕ} → length a ≡ length b → Agreeing a b 0
-agreeing_start q = record { inside = omega arith; even = q; same = refl }
-
-module _ {a b : List ℕ} {i : ℕ} (r : Agreeing a b i) (l : i < length a) where
-  agree_next : same_bytes a b ≡ (eqb (get_or a i 0) (get_or b i 0) && same_bytes (drop (suc i) a) (drop (suc i) b))
-  agree_next =
-      let e : length a ≡ length b = r.even in
-      sym r.same ∙ ap (λ x. same_bytes x (drop i b)) (drop-cons a i 0 l)
-      ∙ ap (same_bytes (get_or a i 0 ∷ drop (suc i) a)) (drop-cons b i 0 (omega arith))
-
-  pub agreeing_turn : get_or a i 0 ≡ get_or b i 0 → Agreeing a b (i + 1)
-  agreeing_turn q =
-      record {
-        inside = omega arith;
-        even = r.even;
-        same = ap (λ k. same_bytes (drop k a) (drop k b)) (add-one i) ∙ sym (agree_next ∙ rw (eq-eqb (get_or a i 0) (get_or b i 0) q) refl);
-      }
-
-  pub agreeing_not : (get_or a i 0 ≡ get_or b i 0 → ⊥) → false ≡ same_bytes a b
-  agreeing_not n = sym (agree_next ∙ rw (ne_eqb (get_or a i 0) (get_or b i 0) n) refl)
-
-pub agreeing_end : {a b : List ℕ} {i : ℕ} → Agreeing a b i → length a ≤ i → true ≡ same_bytes a b
-agreeing_end {a} {b} {i} r l =
-    let e : length a ≡ length b = r.even in
-    sym (ap (same_bytes []) (drop_of_length-le b (let z : length b ≤ i = omega arith in z)))
-    ∙ ap (λ x. same_bytes x (drop i b)) (sym (drop_of_length-le a l)) ∙ r.same
 
 -- ---- kind_of
 
@@ -298,15 +246,7 @@ pub ruleset laws = (
   reading_start,
   reading_turn,
   reading_end,
-  seeking_start,
-  seeking_turn,
-  seeking_found,
-  seeking_end,
   same_lengths,
-  agreeing_start,
-  agreeing_turn,
-  agreeing_not,
-  agreeing_end,
   kind_1,
   kind_2,
   kind_3,

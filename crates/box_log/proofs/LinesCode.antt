@@ -143,28 +143,6 @@ pub record Storing (out₀ : List ℕ) (at : ℕ) (text out : List ℕ) (i : ℕ
   pub even : length out ≡ length out₀
   pub same : sets out (at + i) (drop i text) ≡ sets out₀ at text
 
-pub storing_start : (out : List ℕ) (at : ℕ) (text : List ℕ) → at + length text ≤ length out → Storing out at text out 0
-storing_start out at text p = record { inside = omega arith; room = p; even = refl; same = ap (λ k. sets out k text) (add-zero at) }
-
-pub storing_turn : {out₀ text out : List ℕ} {at i : ℕ} → Storing out₀ at text out i → i < length text
-    → Storing out₀ at text (set out (at + i) (get_or text i 0)) (i + 1)
-storing_turn {out₀} {text} {out} {at} {i} s l =
-    record {
-      inside = omega arith;
-      room = simp length-set s.room;
-      even = length-set out (at + i) (get_or text i 0) ∙ s.even;
-      same = ap (λ k. sets (set out (at + i) (get_or text i 0)) k (drop (i + 1) text)) (let z : at + (i + 1) ≡ suc (at + i) = omega arith in
-          z)
-          ∙ ap (λ k. sets (set out (at + i) (get_or text i 0)) (suc (at + i)) (drop k text)) (add-one i)
-          ∙ ap (sets out (at + i)) (sym (drop-cons text i 0 l)) ∙ s.same;
-    }
-
-pub storing_end : {out₀ text out : List ℕ} {at i : ℕ} → Storing out₀ at text out i → length text ≤ i → out ≡ sets out₀ at text
-storing_end {out₀} {text} {out} {at} {i} s l = ap (sets out (at + i)) (sym (drop_of_length-le text l)) ∙ s.same
-
-pub storing_place : {out₀ text out : List ℕ} {at i : ℕ} → Storing out₀ at text out i → length text ≤ i → at + i ≡ at + length text
-storing_place s l = let a = s.inside in omega arith
-
 module _ (out : List ℕ) where
   pub header_none : length out < 64 → out ≡ header_put out
   unfolding header_put
@@ -186,10 +164,6 @@ module _ (out : List ℕ) where
   header_end_lem l q = q ∙ sym (rw (le-leb 64 (length out) l) refl)
 
 pub ruleset laws = (
-  storing_start,
-  storing_turn,
-  storing_end,
-  storing_place,
   header_none,
   header_none_end,
   header-put,
