@@ -1,12 +1,10 @@
--- Cutting the stream: one law for each return. Assumes nothing.
+-- Cutting the stream: one law for each return that the check leaves open. Assumes nothing.
 use mathlib.Core.Bool.{true, false}
-use mathlib.Core.List.{List, [], ◌∷◌}
+use mathlib.Core.List.{List}
 use mathlib.Core.Path.{◌≡◌, refl, sym, ap, ◌∙◌}
-use Prim.Native.Nat.{ℕ, zero, suc, ◌+◌, ◌≤◌, ◌<◌}
-use native.Mathlib.Omega.{arith}
+use Prim.Native.Nat.{ℕ, ◌≤◌, ◌<◌}
 use lib.ListN.{length, take, set}
-use lib.Seq.{length-take-le}
-use borrow.Author.Tests.{eq-eqb, ne_eqb, lt-ltb, le-ltb, not-true, not-false}
+use borrow.Author.Tests.{eq-eqb, ne_eqb, lt-ltb, le-ltb}
 use Rattle.box_log.specs.Grammar.{read_record}
 use Rattle.box_log.specs.Cutting.{more, read_line, step, plain_line, plain_step, line_after, step_at, line_at_end, ending}
 use Rattle.box_log.specs.declared.entry.Entry.{Entry}
@@ -93,9 +91,6 @@ module _ (line : List ℕ) (p : Place) where
   end_some c n s = ap Record s ∙ sym (rw (c, ne_eqb p.held 0 n) refl)
 
 pub ruleset laws = (
-  length-take-le,
-  not-true,
-  not-false,
   line_long,
   line_reads,
   plain_line_cr,

@@ -1,5 +1,5 @@
--- Reading a record: one law for each return and each turn of a loop, what the tests and the callees have told put together as the
--- definition says it. Assumes nothing.
+-- Reading a record: the loops' invariants, and one law for each return and each turn that the check leaves open, what the tests and the
+-- callees have told put together as the definition says it. Assumes nothing.
 use mathlib.Core.Bool.{Bool, true, false, ◌&&◌}
 use mathlib.Core.List.{List, [], ◌∷◌}
 use mathlib.Core.Path.{◌≡◌, refl, sym, ap, ◌∙◌}
@@ -8,10 +8,10 @@ use native.Mathlib.Omega.{arith}
 use native.Mathlib.Numerals.{add-one}
 use lib.Dec.{eqb}
 use lib.ListN.{length, get_or, take, drop, drop_of_length-le, length-drop}
-use lib.Seq.{drop-cons, length-take-le, take_all}
-use borrow.Author.Tests.{eq-eqb, ne_eqb, lt-ltb, le-ltb, le-leb, lt-leb, not-true, not-false}
+use lib.Seq.{drop-cons, take_all}
+use borrow.Author.Tests.{eq-eqb, ne_eqb, lt-ltb, le-ltb, le-leb, lt-leb}
 use Rattle.box_log.specs.Decimals.{none, fresh, grown, digit_read, number_from, number_of}
-use Rattle.box_log.specs.Grammar.{setup, malloc, free, realloc, memalign, comma, same_bytes, comma_at, kind_of, one_number, two_numbers}
+use Rattle.box_log.specs.Grammar.{setup, malloc, free, realloc, memalign, same_bytes, comma_at, kind_of, one_number, two_numbers}
 use Rattle.box_log.specs.Grammar.{called, read_record}
 use Rattle.box_log.specs.declared.entry.Entry.{Entry}
 use Rattle.box_log.specs.declared.entry.Entry.TheVariants.{Setup, Malloc, Free, Realloc, Memalign, Odd}
@@ -36,11 +36,6 @@ module _ (s b : ℕ) where
       pub digit-zero : s ≡ 0 → none ≡ digit_read s b
       unfolding digit_read grown
       digit-zero e = sym (rw (le-leb 48 b p, le-leb b 57 q, ne_eqb s fresh n, eq-eqb s 0 e) refl)
-
-      pub digit_out : (s ≡ 0 → ⊥) → none ≤ s → none ≡ digit_read s b
-      unfolding digit_read grown
-      digit_out z e =
-          sym (rw (le-leb 48 b p, le-leb b 57 q, ne_eqb s fresh n, ne_eqb s 0 z, le-ltb (s * 10 + (b - 48)) none (omega arith)) refl)
 
       module _ (z : s ≡ 0 → ⊥) {x : ℕ} (e : x ≡ b) where
         pub digit-fits : s * 10 + (x - 48) < none → s * 10 + (x - 48) ≡ digit_read s b
@@ -183,10 +178,6 @@ module _ (k n : ℕ) where
 
 -- ---- call, read
 
--- a part that ends before the end is as long as it says
-pub part_length : (j : ℕ) (l : List ℕ) → j < length l → length (take j l) ≡ j
-part_length j l p = length-take-le j l (omega arith)
-
 -- a part up to the end
 abbrev tail_of : List ℕ → ℕ → List ℕ
 tail_of l n = take (length l - n) (drop n l)
@@ -233,14 +224,10 @@ module _ (s : List ℕ) where
         ∙ sym (rw (le-ltb 64 (length s) o, sym q, lt-leb (length s) j p) refl)
 
 pub ruleset laws = (
-  part_length,
-  not-true,
-  not-false,
   digit_low,
   digit_high,
   digit_first,
   digit-zero,
-  digit_out,
   digit-fits,
   digit_over,
   reading_start,

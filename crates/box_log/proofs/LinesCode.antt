@@ -5,9 +5,8 @@ use mathlib.Core.Path.{◌≡◌, refl, sym, ap, ◌∙◌}
 use Prim.Native.Nat.{ℕ, suc, ◌+◌, ◌-◌, ◌/◌, ◌%◌, ◌^◌, ◌≤◌, ◌<◌}
 use native.Mathlib.Nat.{add-zero, add-suc, suc-add}
 use native.Mathlib.Omega.{arith}
-use native.Mathlib.Numerals.{add-one}
-use lib.ListN.{length, get_or, set, drop, drop_of_length-le, length-append, length-set}
-use lib.Seq.{sets, length-sets, drop-cons}
+use lib.ListN.{length, set, drop, length-append}
+use lib.Seq.{sets}
 use borrow.Author.Tests.{le-leb, lt-leb}
 use Rattle.box_log.specs.Decimals.{decimal}
 use Rattle.box_log.specs.DecimalLaws.{decimal_digit, decimal_more, decimal_twenty}
@@ -54,9 +53,6 @@ module _ (n : ℕ) where
 
   pub more_end : (a k x : ℕ) → 10 ≤ n → k ≡ a + length (decimal (n / 10)) → x ≡ k + 1 → x ≡ a + length (decimal n)
   more_end a k x p q r = omega (arith, length_more p)
-
-  pub tenth : 10 ≤ n → n / 10 < n
-  tenth p = omega arith
 
 -- ---- put_field, put_line
 
@@ -152,9 +148,6 @@ module _ (out : List ℕ) where
   unfolding header_end
   header_none_end l = sym (rw (lt-leb 64 (length out) l) refl)
 
-  pub header-room : (t : List ℕ) → 64 ≤ length out → t ≡ header → 0 + length t ≤ length out
-  header-room t l q = let z : length t ≡ 21 = ap length q in omega arith
-
   pub header-put : {o : List ℕ} → 64 ≤ length out → o ≡ sets out 0 header → o ≡ header_put out
   unfolding header_put
   header-put l q = q ∙ sym (rw (le-leb 64 (length out) l) refl)
@@ -168,24 +161,15 @@ pub ruleset laws = (
   header_none_end,
   header-put,
   header_end_lem,
-  digit_room,
   digit-put,
-  digit_end,
   more_room,
-  more_room_2,
   more_put,
-  more_end,
-  tenth,
   field_room,
-  field_room_2,
   field_put,
-  field_end,
-  field_short,
   past_put,
   past_end,
   tight_put,
   tight_end,
   line-put,
   line_end_lem,
-  length-sets,
 )

@@ -1,5 +1,4 @@
-use lib.ListN.{length}
-use Prim.Native.Nat.{◌-◌}
+use Rattle.std.proofs.Common.{◌-◌, length}
 use Rattle.box_log.proofs.EntryCode.{Seeking}
 use Rattle.box_log.proofs.entry.comma_at.Given as goal
 

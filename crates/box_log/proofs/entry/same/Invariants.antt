@@ -1,5 +1,4 @@
-use lib.ListN.{length}
-use Prim.Native.Nat.{◌-◌}
+use Rattle.std.proofs.Common.{◌-◌, length}
 use Rattle.box_log.proofs.EntryCode.{Agreeing}
 use Rattle.box_log.proofs.entry.same.Given as goal
 

@@ -1,5 +1,4 @@
-use lib.ListN.{length}
-use Prim.Native.Nat.{◌-◌}
+use Rattle.std.proofs.Common.{◌-◌, length}
 use Rattle.box_log.proofs.LinesCode.{Storing}
 use Rattle.box_log.proofs.lines.put_text.Given as goal
 
