@@ -1,10 +1,12 @@
--- Cutting the stream: one law for each return that the check leaves open. Assumes nothing.
+-- Cutting the stream: one law for each return. Assumes nothing.
 use mathlib.Core.Bool.{true, false}
-use mathlib.Core.List.{List}
+use mathlib.Core.List.{List, [], ◌∷◌}
 use mathlib.Core.Path.{◌≡◌, refl, sym, ap, ◌∙◌}
-use Prim.Native.Nat.{ℕ, ◌≤◌, ◌<◌}
+use Prim.Native.Nat.{ℕ, zero, suc, ◌+◌, ◌≤◌, ◌<◌}
+use native.Mathlib.Omega.{arith}
 use lib.ListN.{length, take, set}
-use borrow.Author.Tests.{eq-eqb, ne_eqb, lt-ltb, le-ltb}
+use lib.Seq.{length-take-le}
+use borrow.Author.Tests.{eq-eqb, ne_eqb, lt-ltb, le-ltb, not-true, not-false}
 use Rattle.box_log.specs.Grammar.{read_record}
 use Rattle.box_log.specs.Cutting.{more, read_line, step, plain_line, plain_step, line_after, step_at, line_at_end, ending}
 use Rattle.box_log.specs.declared.entry.Entry.{Entry}
@@ -12,6 +14,19 @@ use Rattle.box_log.specs.declared.entry.Entry.TheVariants.{Odd}
 use Rattle.box_log.specs.declared.cut.Place.{Place}
 use Rattle.box_log.specs.declared.cut.Step.{Step}
 use Rattle.box_log.specs.declared.cut.Got.TheVariants.{Nothing, Record}
+
+-- past its end a line takes no byte
+pub keep_past : (l : List ℕ) (i b : ℕ) → length l ≤ i → l ≡ set l i b
+keep_past [] i b p = refl
+keep_past (x ∷ xs) zero b p = absurd (let z : ⊥ = omega arith in z)
+keep_past (x ∷ xs) (suc i) b p = ap (λ r. x ∷ r) (keep_past xs i b (omega arith))
+
+module _ (held : ℕ) where
+  pub more_in : held < 65 → held + 1 ≡ more held
+  more_in p = sym (rw (lt-ltb held 65 p) refl)
+
+  pub more_out : 65 ≤ held → 65 ≡ more held
+  more_out p = sym (rw (le-ltb held 65 p) refl)
 
 module _ (line : List ℕ) (held : ℕ) where
   pub line_long : length line < held → Odd ≡ read_line line held
@@ -91,6 +106,12 @@ module _ (line : List ℕ) (p : Place) where
   end_some c n s = ap Record s ∙ sym (rw (c, ne_eqb p.held 0 n) refl)
 
 pub ruleset laws = (
+  length-take-le,
+  not-true,
+  not-false,
+  keep_past,
+  more_in,
+  more_out,
   line_long,
   line_reads,
   plain_line_cr,

@@ -1,5 +1,5 @@
--- Reading a record: the loops' invariants, and one law for each return and each turn that the check leaves open, what the tests and the
--- callees have told put together as the definition says it. Assumes nothing.
+-- Reading a record: one law for each return and each turn of a loop, what the tests and the callees have told put together as the
+-- definition says it. Assumes nothing.
 use mathlib.Core.Bool.{Bool, true, false, ◌&&◌}
 use mathlib.Core.List.{List, [], ◌∷◌}
 use mathlib.Core.Path.{◌≡◌, refl, sym, ap, ◌∙◌}
@@ -8,10 +8,10 @@ use native.Mathlib.Omega.{arith}
 use native.Mathlib.Numerals.{add-one}
 use lib.Dec.{eqb}
 use lib.ListN.{length, get_or, take, drop, drop_of_length-le, length-drop}
-use lib.Seq.{drop-cons, take_all}
-use borrow.Author.Tests.{eq-eqb, ne_eqb, lt-ltb, le-ltb, le-leb, lt-leb}
+use lib.Seq.{drop-cons, length-take-le, take_all}
+use borrow.Author.Tests.{eq-eqb, ne_eqb, lt-ltb, le-ltb, le-leb, lt-leb, not-true, not-false}
 use Rattle.box_log.specs.Decimals.{none, fresh, grown, digit_read, number_from, number_of}
-use Rattle.box_log.specs.Grammar.{setup, malloc, free, realloc, memalign, same_bytes, comma_at, kind_of, one_number, two_numbers}
+use Rattle.box_log.specs.Grammar.{setup, malloc, free, realloc, memalign, comma, same_bytes, comma_at, kind_of, one_number, two_numbers}
 use Rattle.box_log.specs.Grammar.{called, read_record}
 use Rattle.box_log.specs.declared.entry.Entry.{Entry}
 use Rattle.box_log.specs.declared.entry.Entry.TheVariants.{Setup, Malloc, Free, Realloc, Memalign, Odd}
@@ -36,6 +36,11 @@ module _ (s b : ℕ) where
       pub digit-zero : s ≡ 0 → none ≡ digit_read s b
       unfolding digit_read grown
       digit-zero e = sym (rw (le-leb 48 b p, le-leb b 57 q, ne_eqb s fresh n, eq-eqb s 0 e) refl)
+
+      pub digit_out : (s ≡ 0 → ⊥) → none ≤ s → none ≡ digit_read s b
+      unfolding digit_read grown
+      digit_out z e =
+          sym (rw (le-leb 48 b p, le-leb b 57 q, ne_eqb s fresh n, ne_eqb s 0 z, le-ltb (s * 10 + (b - 48)) none (omega arith)) refl)
 
       module _ (z : s ≡ 0 → ⊥) {x : ℕ} (e : x ≡ b) where
         pub digit-fits : s * 10 + (x - 48) < none → s * 10 + (x - 48) ≡ digit_read s b
@@ -89,6 +94,31 @@ pub record Seeking (s : List ℕ) (i : ℕ) : Type 0 where
   pub inside : i ≤ length s
   pub same : i + comma_at (drop i s) ≡ comma_at s
 
+pub seeking_start : (s : List ℕ) → Seeking s 0
+seeking_start s = record { inside = omega arith; same = omega arith }
+
+pub seeking_turn : {s : List ℕ} {i : ℕ} → Seeking s i → i < length s → (get_or s i 0 ≡ comma → ⊥) → Seeking s (i + 1)
+seeking_turn {s} {i} r l n =
+    let h : comma_at (drop i s) ≡ suc (comma_at (drop (suc i) s)) = ap comma_at (drop-cons s i 0 l) ∙ rw (ne_eqb (get_or s i 0) comma n) refl in
+    let k : i + comma_at (drop i s) ≡ comma_at s = r.same in
+    record {
+      inside = omega arith;
+      same = ap (λ j. i + 1 + comma_at (drop j s)) (add-one i)
+          ∙ (let z : i + 1 + comma_at (drop (suc i) s) ≡ comma_at s = omega arith in z);
+    }
+
+pub seeking_found : {s : List ℕ} {i : ℕ} → Seeking s i → i < length s → get_or s i 0 ≡ comma → i ≡ comma_at s
+seeking_found {s} {i} r l q =
+    let h : comma_at (drop i s) ≡ 0 = ap comma_at (drop-cons s i 0 l) ∙ rw (eq-eqb (get_or s i 0) comma q) refl in
+    let k : i + comma_at (drop i s) ≡ comma_at s = r.same in
+    omega arith
+
+pub seeking_end : {s : List ℕ} {i : ℕ} → Seeking s i → length s ≤ i → i ≡ comma_at s
+seeking_end {s} {i} r l =
+    let h : comma_at (drop i s) ≡ 0 = ap comma_at (drop_of_length-le s l) in
+    let k : i + comma_at (drop i s) ≡ comma_at s = r.same in
+    omega arith
+
 -- ---- same
 
 pub record Agreeing (a b : List ℕ) (i : ℕ) : Type 0 where
@@ -105,6 +135,33 @@ same_lengths (x ∷ xs) (y ∷ ys) n = go (eqb x y) (same_lengths xs ys (λ q. n
     go : (t : Bool) {u : Bool} → false ≡ u → false ≡ t && u
     go true q = q
     go false q = refl
+
+pub agreeing_start : {a b : List ℕ} → length a ≡ length b → Agreeing a b 0
+agreeing_start q = record { inside = omega arith; even = q; same = refl }
+
+module _ {a b : List ℕ} {i : ℕ} (r : Agreeing a b i) (l : i < length a) where
+  agree_next : same_bytes a b ≡ (eqb (get_or a i 0) (get_or b i 0) && same_bytes (drop (suc i) a) (drop (suc i) b))
+  agree_next =
+      let e : length a ≡ length b = r.even in
+      sym r.same ∙ ap (λ x. same_bytes x (drop i b)) (drop-cons a i 0 l)
+      ∙ ap (same_bytes (get_or a i 0 ∷ drop (suc i) a)) (drop-cons b i 0 (omega arith))
+
+  pub agreeing_turn : get_or a i 0 ≡ get_or b i 0 → Agreeing a b (i + 1)
+  agreeing_turn q =
+      record {
+        inside = omega arith;
+        even = r.even;
+        same = ap (λ k. same_bytes (drop k a) (drop k b)) (add-one i) ∙ sym (agree_next ∙ rw (eq-eqb (get_or a i 0) (get_or b i 0) q) refl);
+      }
+
+  pub agreeing_not : (get_or a i 0 ≡ get_or b i 0 → ⊥) → false ≡ same_bytes a b
+  agreeing_not n = sym (agree_next ∙ rw (ne_eqb (get_or a i 0) (get_or b i 0) n) refl)
+
+pub agreeing_end : {a b : List ℕ} {i : ℕ} → Agreeing a b i → length a ≤ i → true ≡ same_bytes a b
+agreeing_end {a} {b} {i} r l =
+    let e : length a ≡ length b = r.even in
+    sym (ap (same_bytes []) (drop_of_length-le b (let z : length b ≤ i = omega arith in z)))
+    ∙ ap (λ x. same_bytes x (drop i b)) (sym (drop_of_length-le a l)) ∙ r.same
 
 -- ---- kind_of
 
@@ -178,6 +235,10 @@ module _ (k n : ℕ) where
 
 -- ---- call, read
 
+-- a part that ends before the end is as long as it says
+pub part_length : (j : ℕ) (l : List ℕ) → j < length l → length (take j l) ≡ j
+part_length j l p = length-take-le j l (omega arith)
+
 -- a part up to the end
 abbrev tail_of : List ℕ → ℕ → List ℕ
 tail_of l n = take (length l - n) (drop n l)
@@ -224,16 +285,28 @@ module _ (s : List ℕ) where
         ∙ sym (rw (le-ltb 64 (length s) o, sym q, lt-leb (length s) j p) refl)
 
 pub ruleset laws = (
+  part_length,
+  not-true,
+  not-false,
   digit_low,
   digit_high,
   digit_first,
   digit-zero,
+  digit_out,
   digit-fits,
   digit_over,
   reading_start,
   reading_turn,
   reading_end,
+  seeking_start,
+  seeking_turn,
+  seeking_found,
+  seeking_end,
   same_lengths,
+  agreeing_start,
+  agreeing_turn,
+  agreeing_not,
+  agreeing_end,
   kind_1,
   kind_2,
   kind_3,

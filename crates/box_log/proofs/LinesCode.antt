@@ -5,8 +5,9 @@ use mathlib.Core.Path.{◌≡◌, refl, sym, ap, ◌∙◌}
 use Prim.Native.Nat.{ℕ, suc, ◌+◌, ◌-◌, ◌/◌, ◌%◌, ◌^◌, ◌≤◌, ◌<◌}
 use native.Mathlib.Nat.{add-zero, add-suc, suc-add}
 use native.Mathlib.Omega.{arith}
-use lib.ListN.{length, set, drop, length-append}
-use lib.Seq.{sets}
+use native.Mathlib.Numerals.{add-one}
+use lib.ListN.{length, get_or, set, drop, drop_of_length-le, length-append, length-set}
+use lib.Seq.{sets, length-sets, drop-cons}
 use borrow.Author.Tests.{le-leb, lt-leb}
 use Rattle.box_log.specs.Decimals.{decimal}
 use Rattle.box_log.specs.DecimalLaws.{decimal_digit, decimal_more, decimal_twenty}
@@ -53,6 +54,9 @@ module _ (n : ℕ) where
 
   pub more_end : (a k x : ℕ) → 10 ≤ n → k ≡ a + length (decimal (n / 10)) → x ≡ k + 1 → x ≡ a + length (decimal n)
   more_end a k x p q r = omega (arith, length_more p)
+
+  pub tenth : 10 ≤ n → n / 10 < n
+  tenth p = omega arith
 
 -- ---- put_field, put_line
 
@@ -139,6 +143,28 @@ pub record Storing (out₀ : List ℕ) (at : ℕ) (text out : List ℕ) (i : ℕ
   pub even : length out ≡ length out₀
   pub same : sets out (at + i) (drop i text) ≡ sets out₀ at text
 
+pub storing_start : (out : List ℕ) (at : ℕ) (text : List ℕ) → at + length text ≤ length out → Storing out at text out 0
+storing_start out at text p = record { inside = omega arith; room = p; even = refl; same = ap (λ k. sets out k text) (add-zero at) }
+
+pub storing_turn : {out₀ text out : List ℕ} {at i : ℕ} → Storing out₀ at text out i → i < length text
+    → Storing out₀ at text (set out (at + i) (get_or text i 0)) (i + 1)
+storing_turn {out₀} {text} {out} {at} {i} s l =
+    record {
+      inside = omega arith;
+      room = simp length-set s.room;
+      even = length-set out (at + i) (get_or text i 0) ∙ s.even;
+      same = ap (λ k. sets (set out (at + i) (get_or text i 0)) k (drop (i + 1) text)) (let z : at + (i + 1) ≡ suc (at + i) = omega arith in
+          z)
+          ∙ ap (λ k. sets (set out (at + i) (get_or text i 0)) (suc (at + i)) (drop k text)) (add-one i)
+          ∙ ap (sets out (at + i)) (sym (drop-cons text i 0 l)) ∙ s.same;
+    }
+
+pub storing_end : {out₀ text out : List ℕ} {at i : ℕ} → Storing out₀ at text out i → length text ≤ i → out ≡ sets out₀ at text
+storing_end {out₀} {text} {out} {at} {i} s l = ap (sets out (at + i)) (sym (drop_of_length-le text l)) ∙ s.same
+
+pub storing_place : {out₀ text out : List ℕ} {at i : ℕ} → Storing out₀ at text out i → length text ≤ i → at + i ≡ at + length text
+storing_place s l = let a = s.inside in omega arith
+
 module _ (out : List ℕ) where
   pub header_none : length out < 64 → out ≡ header_put out
   unfolding header_put
@@ -147,6 +173,9 @@ module _ (out : List ℕ) where
   pub header_none_end : length out < 64 → 0 ≡ header_end out
   unfolding header_end
   header_none_end l = sym (rw (lt-leb 64 (length out) l) refl)
+
+  pub header-room : (t : List ℕ) → 64 ≤ length out → t ≡ header → 0 + length t ≤ length out
+  header-room t l q = let z : length t ≡ 21 = ap length q in omega arith
 
   pub header-put : {o : List ℕ} → 64 ≤ length out → o ≡ sets out 0 header → o ≡ header_put out
   unfolding header_put
@@ -157,19 +186,32 @@ module _ (out : List ℕ) where
   header_end_lem l q = q ∙ sym (rw (le-leb 64 (length out) l) refl)
 
 pub ruleset laws = (
+  storing_start,
+  storing_turn,
+  storing_end,
+  storing_place,
   header_none,
   header_none_end,
   header-put,
   header_end_lem,
+  digit_room,
   digit-put,
+  digit_end,
   more_room,
+  more_room_2,
   more_put,
+  more_end,
+  tenth,
   field_room,
+  field_room_2,
   field_put,
+  field_end,
+  field_short,
   past_put,
   past_end,
   tight_put,
   tight_end,
   line-put,
   line_end_lem,
+  length-sets,
 )
