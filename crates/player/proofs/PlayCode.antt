@@ -15,8 +15,8 @@ use Rattle.arena.specs.Answers.{answer_of}
 use Rattle.arena.specs.declared.answers.Reason.{Reason}
 use Rattle.arena.specs.declared.answers.Answer as Said
 use Rattle.arena.specs.declared.answers.Answer.TheVariants.{Granted, Done, Bytes, Refused}
-use Rattle.log.specs.declared.entry.Entry.{Entry}
-use Rattle.log.specs.declared.entry.Entry.TheVariants.{Setup, Malloc, Free, Realloc, Memalign, Odd}
+use Rattle.box_log.specs.declared.entry.Entry.{Entry}
+use Rattle.box_log.specs.declared.entry.Entry.TheVariants.{Setup, Malloc, Free, Realloc, Memalign, Odd}
 use Rattle.player.specs.Replayed.{offset_of}
 use Rattle.player.specs.PlayBytes.{Scene, scene, said, shown, is_ready, heard, call_on, begun, set_up_of, play_b}
 use Rattle.player.specs.declared.play.Played.{Played}

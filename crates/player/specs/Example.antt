@@ -2,10 +2,10 @@
 use Rattle.std.specs.Prelude.{◌≡◌, ℕ, List, ◌∷◌, ◌++◌, refl}
 use Rattle.index.specs.Sizes.{round_up, need, need_words}
 use Rattle.rules.specs.BinOf.{huge}
-use Rattle.log.specs.Decimals.{decimal, decimal_in, grown, digit_read, number_from, number_of}
-use Rattle.log.specs.Grammar.{kind_of, one_number, called, read_record}
-use Rattle.log.specs.Cutting.{records, entries}
-use Rattle.log.specs.Answers.{header, crlf, answer_line}
+use Rattle.box_log.specs.Decimals.{decimal, decimal_in, grown, digit_read, number_from, number_of}
+use Rattle.box_log.specs.Grammar.{kind_of, one_number, called, read_record}
+use Rattle.box_log.specs.Cutting.{records, entries}
+use Rattle.box_log.specs.Answers.{header, crlf, answer_line}
 use Rattle.player.specs.Replayed.{lines_from, replayed}
 
 -- `setup,128`, `malloc,24`, `free,16`, `free,16`

@@ -1,11 +1,11 @@
 -- THE RUN over records: the words of the arena at work, its record and buffer, the records answered, and the lines in the buffer for them,
 -- for all inputs. Which records a piece of the log hands out is said by `log`, `Cutting`. Assumes nothing.
 use Rattle.std.specs.Prelude.{ℕ, ◌+◌, ◌%◌, ◌^◌, false, List, [], ◌∷◌}
-use Rattle.log.specs.Answers.{line_put, line_end}
-use Rattle.log.specs.Cutting.{at}
-use Rattle.log.specs.declared.entry.Entry.{Entry}
-use Rattle.log.specs.declared.cut.Got.{Got}
-use Rattle.log.specs.declared.cut.Got.TheVariants.{Nothing, Record}
+use Rattle.box_log.specs.Answers.{line_put, line_end}
+use Rattle.box_log.specs.Cutting.{at}
+use Rattle.box_log.specs.declared.entry.Entry.{Entry}
+use Rattle.box_log.specs.declared.cut.Got.{Got}
+use Rattle.box_log.specs.declared.cut.Got.TheVariants.{Nothing, Record}
 use Rattle.player.specs.PlayBytes.{Scene, play_b}
 use Rattle.player.specs.declared.feed.Run.{Run}
 use Rattle.player.specs.declared.feed.Fed.{Fed}

@@ -18,12 +18,12 @@ use Rattle.memalign.specs.MemalignBytes.{memalign_b}
 use Rattle.sound.specs.SoundBytes.{sound_b, live_b}
 use Rattle.calls.specs.CallBytes.{Told, refusal, chunk_at, grant_of, grant_or_no, if_live, if_few, core_call, call_b}
 use Rattle.calls.specs.ByValue.{Ends, set_up_a}
-use Rattle.log.specs.Decimals.{decimal}
-use Rattle.log.specs.DecimalLaws.{decimal_twenty}
-use Rattle.log.specs.Grammar.{comma}
-use Rattle.log.specs.Answers.{answer_line, crlf, line_put, line_end}
-use Rattle.log.specs.declared.entry.Entry as log
-use Rattle.log.specs.declared.entry.Entry.TheVariants as entry
+use Rattle.box_log.specs.Decimals.{decimal}
+use Rattle.box_log.specs.DecimalLaws.{decimal_twenty}
+use Rattle.box_log.specs.Grammar.{comma}
+use Rattle.box_log.specs.Answers.{answer_line, crlf, line_put, line_end}
+use Rattle.box_log.specs.declared.entry.Entry as log
+use Rattle.box_log.specs.declared.entry.Entry.TheVariants as entry
 use Rattle.player.specs.Replayed.{offset_of}
 use Rattle.player.specs.PlayBytes.{Scene, is_ready, call_on, begun, set_up_of, play_b}
 

@@ -7,13 +7,13 @@ use Rattle.std.proofs.Math.Path.{refl, ap}
 use Rattle.std.proofs.Common.{sym, ◌∙◌, add-zero, arith, length-append, take_at, le-leb}
 use Rattle.std.proofs.lemmas.List.Edits.{sets, sets-eq}
 use Rattle.std.proofs.Math.Seq.{length-sets}
-use Rattle.log.specs.Answers.{header, answer_line, header_put, header_end}
-use Rattle.log.specs.Cutting.{line_after, step_at, ending, hand_out, handed, out_of, line_of, place_of}
-use Rattle.log.specs.CuttingLaws.{cut-whole, in_pieces}
-use Rattle.log.specs.declared.entry.Entry.{Entry}
-use Rattle.log.specs.declared.cut.Place.{Place}
-use Rattle.log.specs.declared.cut.Got.{Got}
-use Rattle.log.specs.declared.cut.Got.TheVariants.{Nothing, Record}
+use Rattle.box_log.specs.Answers.{header, answer_line, header_put, header_end}
+use Rattle.box_log.specs.Cutting.{line_after, step_at, ending, hand_out, handed, out_of, line_of, place_of}
+use Rattle.box_log.specs.CuttingLaws.{cut-whole, in_pieces}
+use Rattle.box_log.specs.declared.entry.Entry.{Entry}
+use Rattle.box_log.specs.declared.cut.Place.{Place}
+use Rattle.box_log.specs.declared.cut.Got.{Got}
+use Rattle.box_log.specs.declared.cut.Got.TheVariants.{Nothing, Record}
 use Rattle.player.specs.Replayed as r
 use Rattle.player.specs.Replayed.{Work, idle, lines_from, replayed}
 use Rattle.player.specs.PlayBytes.{Scene, play_b}

@@ -8,8 +8,8 @@ use Rattle.rules.specs.Calls.{Call, Answer, granted, done, bytes, refused}
 use Rattle.calls.specs.CallBytes.{Told, refusal, call_b}
 use Rattle.calls.specs.Record.{image}
 use Rattle.calls.specs.ByValue.{Ends, set_up_a}
-use Rattle.log.specs.declared.entry.Entry.{Entry}
-use Rattle.log.specs.declared.entry.Entry.TheVariants.{Setup, Malloc, Free, Realloc, Memalign, Odd}
+use Rattle.box_log.specs.declared.entry.Entry.{Entry}
+use Rattle.box_log.specs.declared.entry.Entry.TheVariants.{Setup, Malloc, Free, Realloc, Memalign, Odd}
 use Rattle.player.specs.Replayed.{offset_of}
 use Rattle.player.specs.declared.play.Played.{Played}
 

@@ -21,8 +21,8 @@ use Rattle.calls.specs.Histories.{let_through}
 use Rattle.calls.specs.Record.{image, empty_control}
 use Rattle.calls.specs.RecordLaws.{held-image}
 use Rattle.calls.specs.ByValue.{Ends, ends, set_up_a}
-use Rattle.log.specs.declared.entry.Entry.{Entry}
-use Rattle.log.specs.declared.entry.Entry.TheVariants.{Setup, Malloc, Free, Realloc, Memalign, Odd}
+use Rattle.box_log.specs.declared.entry.Entry.{Entry}
+use Rattle.box_log.specs.declared.entry.Entry.TheVariants.{Setup, Malloc, Free, Realloc, Memalign, Odd}
 use Rattle.player.specs.Replayed.{Work, idle, busy, Line, line, offset_of, after, called, set_up, line_of}
 use Rattle.player.specs.PlayBytes.{Scene, scene, said, is_ready, heard, call_on, begun, set_up_of, play_b}
 

@@ -7,10 +7,10 @@ use Rattle.rules.specs.Heap.{Heap, fresh_heap}
 use Rattle.rules.specs.Calls as rules
 use Rattle.rules.specs.Calls.{Call, Answer, granted, done, bytes, refused, Outcome, allowed_count, answer_to}
 use Rattle.calls.specs.CallBytes.{refusal}
-use Rattle.log.specs.Answers.{header, answer_line}
-use Rattle.log.specs.Cutting.{entries}
-use Rattle.log.specs.declared.entry.Entry.{Entry}
-use Rattle.log.specs.declared.entry.Entry.TheVariants.{Setup, Malloc, Free, Realloc, Memalign, Odd}
+use Rattle.box_log.specs.Answers.{header, answer_line}
+use Rattle.box_log.specs.Cutting.{entries}
+use Rattle.box_log.specs.declared.entry.Entry.{Entry}
+use Rattle.box_log.specs.declared.entry.Entry.TheVariants.{Setup, Malloc, Free, Realloc, Memalign, Odd}
 
 -- no set-up was granted yet; or the arena at work, its number of words and its heap
 pub data Work : Type 0 where

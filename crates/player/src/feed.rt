@@ -1,13 +1,13 @@
 // The log's bytes to the records, the records to the arena, the lines that answer to a lent buffer.
 ghost use Rattle.std.specs.Prelude.{◌≡◌};
-ghost use Rattle.log.specs.Cutting.{line_after, step_at, line_of, place_of, out_of, line_at_end, ending, at};
-ghost use Rattle.log.specs.Answers.{header_put, header_end};
+ghost use Rattle.box_log.specs.Cutting.{line_after, step_at, line_of, place_of, out_of, line_at_end, ending, at};
+ghost use Rattle.box_log.specs.Answers.{header_put, header_end};
 ghost use Rattle.player.specs.FeedBytes.{fresh, emptied, desk, tell_b, handed_out, play_all};
 
 use crate::play::play;
-use log::cut::{Got, Place, finish, take_byte};
-use log::entry::Entry;
-use log::lines::{put_header, put_line};
+use box_log::cut::{Got, Place, finish, take_byte};
+use box_log::entry::Entry;
+use box_log::lines::{put_header, put_line};
 
 // The words of the arena at work, how many records were answered, how many bytes of lines are in the buffer.
 #[derive(Clone, Copy)]

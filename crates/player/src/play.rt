@@ -10,7 +10,7 @@ use arena::answers::Answer;
 use arena::control::image_of;
 use arena::on_image;
 use chunk::access::BlockOff;
-use log::entry::Entry;
+use box_log::entry::Entry;
 
 // How many words the arena at work has from now on, 0 for none; and what the record's line says.
 #[derive(Clone, Copy)]
