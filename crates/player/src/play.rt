@@ -9,8 +9,8 @@ use crate::shown::{offset_of, refusal_of};
 use arena::answers::Answer;
 use arena::control::image_of;
 use arena::on_image;
-use chunk::access::BlockOff;
 use box_log::entry::Entry;
+use chunk::access::BlockOff;
 
 // How many words the arena at work has from now on, 0 for none; and what the record's line says.
 #[derive(Clone, Copy)]

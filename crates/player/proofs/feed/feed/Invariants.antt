@@ -1,0 +1,11 @@
+use Rattle.std.proofs.Common.{◌-◌, length, rules}
+use Rattle.player.specs.FeedBytes.{desk}
+use Rattle.player.proofs.FeedCode.{Feeding, feeding_start, feeding_turn, feeding_line, feeding_place, feeding_from}
+use Rattle.player.proofs.feed.feed.Given as goal
+
+abbrev pub invariant-loop-i : goal.invariant-loop-i
+invariant-loop-i l =
+    Feeding l.piece l.initial.line l.initial.fed.place (desk l.initial.fed.run l.initial.r l.initial.w l.initial.out) l.line l.fed.place (desk l.fed.run l.r l.w l.out) l.i
+
+abbrev pub decreases-loop-i : goal.decreases-loop-i
+decreases-loop-i l = length l.piece - l.i

@@ -1,0 +1,12 @@
+use Rattle.player.proofs.PlayCode.{laws}
+use Rattle.std.proofs.Common.{rules}
+use Rattle.player.proofs.play.free.Goals as goal
+
+pub returns-then-not-ready : goal.returns-then-not-ready
+returns-then-not-ready c = search (laws, rules)
+
+pub slice_bounds-free-end : goal.slice_bounds-free-end
+slice_bounds-free-end c = search (laws, rules)
+
+pub returns : goal.returns
+returns c = search (laws, rules)
