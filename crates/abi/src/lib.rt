@@ -71,8 +71,7 @@ fn hand_out(rec: &mut [u64], image: [u64; 72], out: &mut [u64], a: Answer) -> u6
 
 // ---- the calls
 
-#[unsafe(no_mangle)]
-pub extern "C" fn nuka_setup(rec: &mut [u64], w: &mut [u64], out: &mut [u64]) -> u64
+pub fn nuka_setup(rec: &mut [u64], w: &mut [u64], out: &mut [u64]) -> u64
     ensures { said result rec.new w.new out.new ≡ set_up_c rec.old w.old out.old }
 {
     if !lent_ok(rec.len(), out.len()) {
@@ -85,8 +84,7 @@ pub extern "C" fn nuka_setup(rec: &mut [u64], w: &mut [u64], out: &mut [u64]) ->
 }
 
 // The record that was lent is written, not read.
-#[unsafe(no_mangle)]
-pub extern "C" fn nuka_rebuild(rec: &mut [u64], w: &mut [u64], out: &mut [u64], start: u64) -> u64
+pub fn nuka_rebuild(rec: &mut [u64], w: &mut [u64], out: &mut [u64], start: u64) -> u64
     ensures { said result rec.new w.new out.new
         ≡ rebuild_c rec.old w.old out.old start }
 {
@@ -99,8 +97,7 @@ pub extern "C" fn nuka_rebuild(rec: &mut [u64], w: &mut [u64], out: &mut [u64], 
     hand_out(rec, image_of(c), out, a)
 }
 
-#[unsafe(no_mangle)]
-pub extern "C" fn nuka_malloc(rec: &mut [u64], w: &mut [u64], out: &mut [u64], bytes: u64) -> u64
+pub fn nuka_malloc(rec: &mut [u64], w: &mut [u64], out: &mut [u64], bytes: u64) -> u64
     ensures { said result rec.new w.new out.new ≡ call_c rec.old w.old out.old (Malloc bytes) }
 {
     if !lent_ok(rec.len(), out.len()) {
@@ -114,8 +111,7 @@ pub extern "C" fn nuka_malloc(rec: &mut [u64], w: &mut [u64], out: &mut [u64], b
     hand_out(rec, r, out, a)
 }
 
-#[unsafe(no_mangle)]
-pub extern "C" fn nuka_free(rec: &mut [u64], w: &mut [u64], out: &mut [u64], offset: u64) -> u64
+pub fn nuka_free(rec: &mut [u64], w: &mut [u64], out: &mut [u64], offset: u64) -> u64
     ensures { said result rec.new w.new out.new ≡ call_c rec.old w.old out.old (Free offset) }
 {
     if !lent_ok(rec.len(), out.len()) {
@@ -129,14 +125,7 @@ pub extern "C" fn nuka_free(rec: &mut [u64], w: &mut [u64], out: &mut [u64], off
     hand_out(rec, r, out, a)
 }
 
-#[unsafe(no_mangle)]
-pub extern "C" fn nuka_realloc(
-    rec: &mut [u64],
-    w: &mut [u64],
-    out: &mut [u64],
-    offset: u64,
-    bytes: u64,
-) -> u64
+pub fn nuka_realloc(rec: &mut [u64], w: &mut [u64], out: &mut [u64], offset: u64, bytes: u64) -> u64
     ensures { said result rec.new w.new out.new ≡ call_c rec.old w.old out.old (Realloc offset bytes) }
 {
     if !lent_ok(rec.len(), out.len()) {
@@ -150,8 +139,7 @@ pub extern "C" fn nuka_realloc(
     hand_out(rec, r, out, a)
 }
 
-#[unsafe(no_mangle)]
-pub extern "C" fn nuka_memalign(
+pub fn nuka_memalign(
     rec: &mut [u64],
     w: &mut [u64],
     out: &mut [u64],
@@ -171,8 +159,7 @@ pub extern "C" fn nuka_memalign(
     hand_out(rec, r, out, a)
 }
 
-#[unsafe(no_mangle)]
-pub extern "C" fn nuka_usable(rec: &[u64], w: &[u64], out: &mut [u64], offset: u64) -> u64
+pub fn nuka_usable(rec: &[u64], w: &[u64], out: &mut [u64], offset: u64) -> u64
     ensures { said result rec.now w.now out.new ≡ call_c rec.now w.now out.old (Usable offset) }
 {
     if !lent_ok(rec.len(), out.len()) {
@@ -186,8 +173,7 @@ pub extern "C" fn nuka_usable(rec: &[u64], w: &[u64], out: &mut [u64], offset: u
 }
 
 // One check for a whole list of calls, three words each; the answers are two words each.
-#[unsafe(no_mangle)]
-pub extern "C" fn nuka_batch(
+pub fn nuka_batch(
     rec: &mut [u64],
     w: &mut [u64],
     out: &mut [u64],
@@ -212,8 +198,7 @@ pub extern "C" fn nuka_batch(
 }
 
 // 0 for a sound pair, else the number of the refusal that every call would give.
-#[unsafe(no_mangle)]
-pub extern "C" fn nuka_sound(rec: &[u64], w: &[u64]) -> u64
+pub fn nuka_sound(rec: &[u64], w: &[u64]) -> u64
     ensures { result ≡ sound_c rec.now w.now }
 {
     if rec.len() != 72 {
