@@ -20,7 +20,7 @@ use Rattle.calls.specs.Record.{reads, image}
 use Rattle.calls.specs.ByValue.{ends, set_up_a, rebuild_a}
 use Rattle.calls.specs.RecordLaws.{reads_all}
 use Rattle.batch.specs.BatchBytes.{batched, batch_m}
-use Rattle.batch.specs.BatchLaws.{set_batch}
+use Rattle.batch.proofs.BatchLaws.{set_batch}
 use Rattle.abi.specs.Words.{said, value_of, out_of, lent_ok, copied, odd_record, tell_c, call_c, set_c, set_up_c, rebuild_c, sound_c}
 use Rattle.abi.specs.Words.{ran, answered, count_out, tell_batch, batch_c}
 

@@ -10,7 +10,7 @@ use lib.ListN.{length, get_or, set, drop, drop_of_length-le, length-append, leng
 use lib.Seq.{sets, length-sets, drop-cons}
 use borrow.Author.Tests.{le-leb, lt-leb}
 use Rattle.box_log.specs.Decimals.{decimal}
-use Rattle.box_log.specs.DecimalLaws.{decimal_digit, decimal_more, decimal_twenty}
+use Rattle.box_log.proofs.DecimalLaws.{decimal_digit, decimal_more, decimal_twenty}
 use Rattle.box_log.specs.Grammar.{comma}
 use Rattle.box_log.specs.Answers.{header, field, answer_line, has_room, line_put, line_end, header_put, header_end}
 

@@ -9,12 +9,9 @@ pub mod CallObeys
 pub mod CallReach
 pub mod Stars
 pub mod Refusals
-pub mod Rows
 pub mod Rebuilds
 pub mod Histories
 pub mod Owners
 pub mod Kept
 pub mod InUse
-pub mod Lending
-pub mod Stores
 pub mod Shapes

@@ -12,19 +12,19 @@ use Rattle.rules.specs.Malloc.{Grant, malloc}
 use Rattle.rules.specs.Realloc.{resize_here, front, realloc}
 use Rattle.rules.specs.Memalign.{memalign}
 use Rattle.rules.specs.Lookup.{Block}
-use Rattle.rules.specs.ReallocLaws.{some_none, refused_exactly}
-use Rattle.rules.specs.MemalignLaws.{memalign_none}
+use Rattle.rules.proofs.ReallocLaws.{some_none, refused_exactly}
+use Rattle.rules.proofs.MemalignLaws.{memalign_none}
 use Rattle.holds.specs.Ops.{state}
 use Rattle.holds.specs.NoRoom.{Tight, no_room_exactly}
 use Rattle.chunk.specs.Image.{decode}
 use Rattle.chunk.specs.Held.{Held}
 use Rattle.malloc.specs.MallocBytes.{Reply, reply, malloc_b}
 use Rattle.malloc.specs.MallocObeys.{Obeys}
-use Rattle.malloc.specs.MallocFollows.{malloc_obeys}
+use Rattle.malloc.proofs.MallocFollows.{malloc_obeys}
 use Rattle.realloc.specs.ReallocBytes.{realloc_b}
-use Rattle.realloc.specs.ReallocFollows.{realloc_obeys}
+use Rattle.realloc.proofs.ReallocFollows.{realloc_obeys}
 use Rattle.memalign.specs.MemalignBytes.{memalign_b}
-use Rattle.memalign.specs.MemalignObeys.{memalign_obeys}
+use Rattle.memalign.proofs.MemalignObeys.{memalign_obeys}
 
 -- the answer is none exactly when P holds; then image and words are as they were
 pub record NoneExactly (e : Edition) (r w : List ℕ) (a : Reply) (P : Type 0) : Type 0 where

@@ -6,14 +6,9 @@ use Rattle.std.proofs.Common.{sym, ◌∙◌, ap, subst, arith, length-set}
 use Rattle.words.specs.Edition.{Edition, wide, W, no_link}
 use Rattle.rules.specs.Heap.{Heap, fresh_heap}
 use Rattle.rules.specs.Calls.{Call, answer_to}
-use Rattle.rules.specs.Morning.{Line, call, copying, refusing, top_is, dv_is, no_dv_lem, free_is, block_is, fresh_is, kind, value, same, line, runs, all_run, stars, morning}
+use Rattle.rules.specs.Morning.{Line, call, copying, refusing, top_is, dv_is, no_dv_lem, free_is, block_is, fresh_is, kind, value, same, line}
 use Rattle.tiling.specs.Steps.{fresh_words}
-use Rattle.holds.specs.Holds.{fresh_control, Near}
-use Rattle.holds.specs.Unique.{fresh_holds}
-use Rattle.chunk.specs.Image.{decode}
-use Rattle.chunk.specs.Held.{Held}
 use Rattle.calls.specs.CallBytes.{core_call}
-use Rattle.calls.specs.CallObeys.{Follows, call_obeys}
 
 -- the record's image, the arena's words, and the heap that they hold
 pub record Box : Type 0 where
@@ -21,12 +16,12 @@ pub record Box : Type 0 where
   pub words : List ℕ
   pub heap : Heap
 
-abbrev asked : Box → Call → Box
+abbrev pub asked : Box → Call → Box
 asked b c =
     let t = core_call wide b.image b.words c in
     record { image = t.image; words = t.words; heap = (answer_to wide (length b.words) b.heap c).heap }
 
-abbrev answered : Box → Call → ℕ → ℕ → Bool
+abbrev pub answered : Box → Call → ℕ → ℕ → Bool
 answered b c k v = same (core_call wide b.image b.words c).answer k v
 
 -- every line is right
@@ -46,53 +41,9 @@ abbrev pub all_run_b : Box → List (List Line) → Bool
 all_run_b b [] = true
 all_run_b b (c ∷ cs) = runs_b b c && all_run_b b cs
 
--- ---- right of the words as of the rules
-
-abbrev HeldBox : Box → Type 0
-HeldBox b = Held wide b.image b.words b.heap []
-
-module _ (b : Box) (n : HeldBox b) (c : Call) where
-  f : Follows wide b.image b.words (core_call wide b.image b.words c) (answer_to wide (length b.words) b.heap c)
-  f = call_obeys wide b.image b.words b.heap n c
-
-  same_answer : (k v : ℕ) → answered b c k v ≡ same (answer_to wide (length b.words) b.heap c).answer k v
-  same_answer k v = ap (λ a. same a k v) f.answer
-
-pub runs-held : (b : Box) → HeldBox b → (ls : List Line) → runs_b b ls ≡ runs (length b.words) b.heap ls
-runs-held b n [] = refl
-runs-held b n (call c a ∷ ls) = rw (same_answer b n c (kind a) (value a), runs-held (asked b c) (f b n c).held ls, (f b n c).count) refl
-runs-held b n (copying c a k ∷ ls) = rw (same_answer b n c (kind a) (value a), runs-held (asked b c) (f b n c).held ls, (f b n c).count) refl
-runs-held b n (refusing c k ∷ ls) = rw (same_answer b n c 3 k, runs-held (asked b c) (f b n c).held ls, (f b n c).count) refl
-runs-held b n (top_is p s ∷ ls) = rw (runs-held b n ls) refl
-runs-held b n (dv_is p s ∷ ls) = rw (runs-held b n ls) refl
-runs-held b n (no_dv_lem ∷ ls) = rw (runs-held b n ls) refl
-runs-held b n (free_is p s ∷ ls) = rw (runs-held b n ls) refl
-runs-held b n (block_is off s ∷ ls) = rw (runs-held b n ls) refl
-runs-held b n (fresh_is ∷ ls) = rw (runs-held b n ls) refl
-
-all_held : (b : Box) → HeldBox b → b.heap ≡ fresh_heap (length b.words) → (cs : List (List Line)) → all_run_b b cs ≡ all_run (length b.words) cs
-all_held b n q [] = refl
-all_held b n q (c ∷ cs) = rw (runs-held b n c, all_held b n q cs, q) refl
-
--- ---- set-up
-
 -- the fresh record as 72 words
 abbrev pub fresh_image : Edition → ℕ → List ℕ
 fresh_image e n = 0 ∷ 0 ∷ no_link e ∷ 0 ∷ 0 ∷ W e * (n - 10) ∷ W e * n ∷ 0 ∷ replicate 64 (no_link e)
 
-pub fresh-image : (e : Edition) (n : ℕ) → decode (fresh_image e n) ≡ fresh_control e n
-unfolding decode
-fresh-image e n = refl
-
-pub fresh-held : (e : Edition) (w : List ℕ) → length w % 2 ≡ 0 → 16 ≤ length w → length w ≤ 8192 → Held e (fresh_image e (length w)) (fresh_words e w) (fresh_heap (length w)) []
-fresh-held e w v l k = record { image = refl; near = subst (λ z. Near e z (fresh_words e w) (fresh_heap (length w)) []) (sym (fresh-image e (length w))) (fresh_holds e w v l k) }
-
-runs-fresh : (b : Box) → HeldBox b → length b.words ≡ 128 → b.heap ≡ fresh_heap 128 → (cs : List (List Line)) → all_run 128 cs ≡ true → all_run_b b cs ≡ true
-runs-fresh b n l q cs m = all_held b n (q ∙ ap fresh_heap (sym l)) cs ∙ ap (λ k. all_run k cs) l ∙ m
-
 abbrev pub fresh_box : List ℕ → Box
 fresh_box w = record { image = fresh_image wide (length w); words = fresh_words wide w; heap = fresh_heap (length w) }
-
--- on any 128 words, whatever they held before set-up
-pub stars_of_the_words : (w : List ℕ) → length w ≡ 128 → all_run_b (fresh_box w) stars ≡ true
-stars_of_the_words w q = runs-fresh (fresh_box w) (fresh-held wide w (omega arith) (omega arith) (omega arith)) (simp length-set q) (ap fresh_heap q) stars morning

@@ -15,7 +15,7 @@ use Rattle.tiling.specs.Tiling.{Chunk, used, free, size, in_use, end_of, ChunkAt
 use Rattle.rules.specs.Heap.{Heap}
 use Rattle.rules.specs.Calls.{block_of, live_size}
 use Rattle.rules.specs.Tidy.{Tidy, starts_in'}
-use Rattle.rules.specs.ReallocLaws.{some_none}
+use Rattle.rules.proofs.ReallocLaws.{some_none}
 use Rattle.holds.specs.Lookup.{run_tidy}
 use Rattle.chunk.specs.Bytes.{size_b, cinuse_b}
 use Rattle.chunk.specs.Plain.{size_plain, cinuse_plain}

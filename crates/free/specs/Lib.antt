@@ -1,5 +1,3 @@
 -- free and dispose_chunk: the words level, and that they follow the rule.
 pub mod FreeBytes
 pub mod FreeObeys
-pub mod FreeReach
-pub mod FreeKeeps

@@ -14,7 +14,8 @@ use Rattle.tries.specs.Tree.{Tree, leaf, node, count, All, all_map, Has}
 use Rattle.tries.specs.Bits.{wid_pos}
 use Rattle.tries.specs.Shape.{Shaped, range}
 use Rattle.tries.specs.Members.{has_at, has_all}
-use Rattle.tries.specs.Search.{Cand, walk, down, start, best-fit, best-down}
+use Rattle.tries.specs.Search.{Cand, walk, down, start}
+use Rattle.tries.proofs.Search.{best-fit, best-down}
 use Rattle.rules.specs.BinOf.{trie_bin, trie_bits, trie_low, InTrie, trie_in, trie_is, trie_aligned, huge, trie_least}
 use Rattle.rules.specs.Heap.{Heap, grows_some}
 use Rattle.rules.specs.Malloc.{first_filled, best_from, best_large}

@@ -16,7 +16,7 @@ use Rattle.tries.specs.InsertWords.{Ready, insert_mem, insert_within, insert-roo
 use Rattle.tries.specs.UnlinkWords.{new_root, heir}
 use Rattle.tries.specs.UnlinkMem.{count-unlink}
 use Rattle.tries.specs.Unlinked.{unlink_writes, Unlinked, unlinked}
-use Rattle.tries.specs.SearchMem.{shape_depth}
+use Rattle.tries.proofs.SearchMem.{shape_depth}
 use Rattle.tries.specs.Bits.{bit}
 use Rattle.rules.specs.BinOf.{trie_bits, trie_low, InTrie, trie_aligned, trie_least}
 use Rattle.rules.specs.Heap.{Heap, holds_some, grows_some, heap_tries}

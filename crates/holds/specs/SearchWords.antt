@@ -12,7 +12,8 @@ use Rattle.index.specs.BinMap.{first_from}
 use Rattle.index.specs.MapOfBins as M
 use Rattle.tries.specs.Tree.{leaf, count}
 use Rattle.tries.specs.Search.{Cand, walk, down, start}
-use Rattle.tries.specs.SearchMem.{walk_m, down_m, walk_tree, down_tree, shape_depth}
+use Rattle.tries.specs.SearchMem.{walk_m, down_m}
+use Rattle.tries.proofs.SearchMem.{walk_tree, down_tree, shape_depth}
 use Rattle.rules.specs.BinOf.{trie_bin, trie_bits, trie_low, InTrie, trie_in, huge}
 use Rattle.rules.specs.Heap.{Heap, grows_some}
 use Rattle.rules.specs.Malloc.{first_filled, best_from, best_large}

@@ -10,7 +10,7 @@ use borrow.Author.Tests.{le-leb, lt-leb, not-true, not-false}
 use Rattle.words.specs.Edition.{wide}
 use Rattle.sound.specs.SoundBytes.{count_ok, sound_b, live_b, usable_b}
 use Rattle.lend.specs.LendBytes.{lends_b, fits_b, lent_from, lent_words, lent, back}
-use Rattle.lend.specs.LendLaws.{lent_in, lent_small}
+use Rattle.lend.proofs.LendLaws.{lent_in, lent_small}
 
 module _ (r w : List ℕ) (off : ℕ) where
   -- ---- whether it lends

@@ -1,2 +1,3 @@
 -- What the code leaves at each return, as laws.
 pub mod LendCode
+pub mod LendLaws

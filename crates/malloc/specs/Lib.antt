@@ -2,6 +2,4 @@
 pub mod MallocBytes
 pub mod MallocWays
 pub mod MallocObeys
-pub mod MallocFollows
 pub mod MallocReach
-pub mod MallocKeeps

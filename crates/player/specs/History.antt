@@ -15,7 +15,8 @@ use Rattle.rules.specs.Malloc.{Grant, malloc}
 use Rattle.rules.specs.Realloc.{realloc}
 use Rattle.rules.specs.Memalign.{memalign}
 use Rattle.calls.specs.CallBytes.{refusal}
-use Rattle.calls.specs.Histories.{Event, asks, answers, ruled, set_up_on, from_set_up}
+use Rattle.calls.specs.Histories.{Event, asks, answers, ruled, set_up_on}
+use Rattle.calls.proofs.Histories.{from_set_up}
 use Rattle.box_log.specs.declared.entry.Entry.{Entry}
 use Rattle.box_log.specs.declared.entry.Entry.TheVariants.{Setup, Malloc, Free, Realloc, Memalign, Odd}
 use Rattle.player.specs.Replayed.{Work, busy, Line, offset_of, set_up, line_of}

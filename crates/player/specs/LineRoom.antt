@@ -19,7 +19,7 @@ use Rattle.sound.specs.SoundBytes.{sound_b, live_b}
 use Rattle.calls.specs.CallBytes.{Told, refusal, chunk_at, grant_of, grant_or_no, if_live, if_few, core_call, call_b}
 use Rattle.calls.specs.ByValue.{Ends, set_up_a}
 use Rattle.box_log.specs.Decimals.{decimal}
-use Rattle.box_log.specs.DecimalLaws.{decimal_twenty}
+use Rattle.box_log.proofs.DecimalLaws.{decimal_twenty}
 use Rattle.box_log.specs.Grammar.{comma}
 use Rattle.box_log.specs.Answers.{answer_line, crlf, line_put, line_end}
 use Rattle.box_log.specs.declared.entry.Entry as log

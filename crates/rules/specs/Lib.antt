@@ -16,8 +16,6 @@ pub mod Splice
 pub mod Leaves
 pub mod MallocLaws
 pub mod Remainder
-pub mod FreeLaws
-pub mod Cutting
 pub mod ReallocLaws
 pub mod MemalignLaws
 pub mod Slips

@@ -21,7 +21,7 @@ use Rattle.tries.specs.TreeAt.{link, TreeAt}
 use Rattle.tries.specs.Shape.{Shaped, Between}
 use Rattle.tries.specs.Search.{Cand, better, down, walk, start}
 use Rattle.tries.specs.UnlinkWords.{depth}
-use Rattle.tries.specs.SearchMem.{shape_depth}
+use Rattle.tries.proofs.SearchMem.{shape_depth}
 use Rattle.rules.specs.BinOf.{trie_bin, trie_bits, trie_low, InTrie, huge, trie_in, trie_aligned}
 use Rattle.rules.specs.Heap.{Heap, grows_some}
 use Rattle.rules.specs.Malloc.{first_filled, best_from, best_large}

@@ -17,7 +17,7 @@ use Rattle.tries.specs.InsertWords.{locate_tree, insert_within}
 use Rattle.tries.specs.UnlinkWords.{back, round1, heir}
 use Rattle.tries.specs.UnlinkMem.{unlink_w}
 use Rattle.tries.specs.Unlinked.{unlink_writes, Unlinked, unlinked}
-use Rattle.tries.specs.SearchMem.{shape_depth}
+use Rattle.tries.proofs.SearchMem.{shape_depth}
 use Rattle.rules.specs.BinOf.{is_small, trie_bin, trie_bits, trie_low, InTrie, trie_aligned}
 use Rattle.rules.specs.Heap.{Heap}
 use Rattle.holds.specs.Holds.{in_dv}

@@ -16,7 +16,7 @@ use Rattle.tries.specs.Tree.{Tree, leaf, node, count, unlink}
 use Rattle.tries.specs.TreeAt.{link, TreeAt}
 use Rattle.tries.specs.UnlinkWords.{round1, heir, round2, depth}
 use Rattle.tries.specs.UnlinkMem.{unlink_mem, unlink_w}
-use Rattle.tries.specs.SearchMem.{shape_depth}
+use Rattle.tries.proofs.SearchMem.{shape_depth}
 use Rattle.rules.specs.BinOf.{is_small, trie_bin, trie_bits, trie_low}
 use Rattle.rules.specs.Heap.{Heap, heap_tries}
 use Rattle.holds.specs.Ops.{state, with_trees, unmark, cut_large}

@@ -1,0 +1,26 @@
+-- What the crate's definitions and functions fulfil.
+pub mod AllKept
+pub mod AnyInputKept
+pub mod BatchInstance
+pub mod BatchKept
+pub mod FitInstance
+pub mod FitKept
+pub mod GivenBack
+pub mod GrantedBy
+pub mod GrantsInstance
+pub mod GrantsKept
+pub mod HistoriesKept
+pub mod Instance
+pub mod LendsKept
+pub mod NumbersKept
+pub mod OrderKept
+pub mod RebuildKept
+pub mod ResizeKept
+pub mod ResizeRoom
+pub mod RoomLaws
+pub mod RowLaws
+pub mod SettledKept
+pub mod SmallFit
+pub mod SwayedKept
+pub mod TheRulesKept
+pub mod RebuildInstance

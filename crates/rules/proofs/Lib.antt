@@ -1,0 +1,5 @@
+-- What the crate's definitions and functions fulfil.
+pub mod FreeLaws
+pub mod MemalignLaws
+pub mod ReallocLaws
+pub mod Cutting

@@ -1,0 +1,3 @@
+-- What the crate's definitions and functions fulfil.
+pub mod Search
+pub mod SearchMem
