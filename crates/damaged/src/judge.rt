@@ -1,7 +1,7 @@
 // One damage: words are changed, the check is asked, the words are put back, the check is asked again.
 use chunk::access::sum;
-use libc::STDOUT_FILENO;
 use sound::sound;
+use std::io;
 
 // The journal: how many words are changed now, how many damages there were, how many answers were wrong, the arena's words; from word 4
 // on each changed word's place and what it was. A place below 72 is a word of the record, 72 + k is word k of the arena.
@@ -68,57 +68,80 @@ fn accepts(r: &[u64; 72], w: &[u64; 512], j: &[u64; 40]) -> bool {
     sound(r, &all[0..n])
 }
 
-pub fn tell(j: &mut [u64; 40], name: &[u8], refused: bool, accepted: bool) {
+pub fn tell(
+    rt: &impl Print,
+    j: &mut [u64; 40],
+    name: &[u8],
+    refused: bool,
+    accepted: bool,
+) -> io::Result<()> {
     j[TRIED] = sum(j[TRIED], 1);
-    io::write_all(STDOUT_FILENO, name);
+    rt.write_all(name)?;
     if refused && accepted {
-        io::write_all(STDOUT_FILENO, b": refused, mended accepted\n");
+        rt.write_all(b": refused, mended accepted\n")?;
     } else {
-        io::write_all(STDOUT_FILENO, b": WRONG\n");
+        rt.write_all(b": WRONG\n")?;
         j[WRONG] = sum(j[WRONG], 1);
     }
+    Ok(())
 }
 
 // What stands in the journal is the damage.
-pub fn judge(r: &mut [u64; 72], w: &mut [u64; 512], j: &mut [u64; 40], name: &[u8]) {
+pub fn judge(
+    rt: &impl Print,
+    r: &mut [u64; 72],
+    w: &mut [u64; 512],
+    j: &mut [u64; 40],
+    name: &[u8],
+) -> io::Result<()> {
     let refused = !accepts(r, w, j);
     mend(r, w, j);
     let accepted = accepts(r, w, j);
-    tell(j, name, refused, accepted);
+    tell(rt, j, name, refused, accepted)
 }
 
 pub fn try_record(
+    rt: &impl Print,
     r: &mut [u64; 72],
     w: &mut [u64; 512],
     j: &mut [u64; 40],
     k: usize,
     v: u64,
     name: &[u8],
-) {
+) -> io::Result<()> {
     put_record(r, j, k, v);
-    judge(r, w, j, name);
+    judge(rt, r, w, j, name)
 }
 
 pub fn try_word(
+    rt: &impl Print,
     r: &mut [u64; 72],
     w: &mut [u64; 512],
     j: &mut [u64; 40],
     k: usize,
     v: u64,
     name: &[u8],
-) {
+) -> io::Result<()> {
     put_word(w, j, k, v);
-    judge(r, w, j, name);
+    judge(rt, r, w, j, name)
 }
 
 // From here on the arena has n words.
-pub fn say_state(r: &[u64; 72], w: &[u64; 512], j: &mut [u64; 40], n: u64, name: &[u8]) {
+pub fn say_state(
+    rt: &impl Print,
+    r: &[u64; 72],
+    w: &[u64; 512],
+    j: &mut [u64; 40],
+    n: u64,
+    name: &[u8],
+) -> io::Result<()> {
     j[WORDS] = n;
-    io::write_all(STDOUT_FILENO, name);
+    rt.write_all(name)?;
     if accepts(r, w, j) {
-        io::write_all(STDOUT_FILENO, b": accepted\n");
+        rt.write_all(b": accepted\n")?;
     } else {
-        io::write_all(STDOUT_FILENO, b": WRONG\n");
+        rt.write_all(b": WRONG\n")?;
         j[WRONG] = sum(j[WRONG], 1);
     }
+    Ok(())
 }

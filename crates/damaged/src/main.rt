@@ -10,23 +10,23 @@ use crate::chunks::{counts, tilings};
 use crate::judge::{TRIED, WRONG};
 use crate::small::small_bins;
 use crate::trees::trees;
-use libc::STDOUT_FILENO;
+use std::io;
 
-fn say(name: &[u8], n: u64) {
-    io::write_all(STDOUT_FILENO, name);
-    io::print_decimal(STDOUT_FILENO, n);
-    io::write_all(STDOUT_FILENO, b"\n");
+fn say(rt: &impl Print, name: &[u8], n: u64) -> io::Result<()> {
+    rt.write_all(name)?;
+    rt.print(n)?;
+    rt.write_all(b"\n")
 }
 
-fn main() {
+fn main(rt: HostRuntime) -> io::Result<()> {
     let mut j = [0u64; 40];
     let mut r = [0u64; 72];
     let mut large = [0u64; 8194];
-    counts(&mut r, &mut large, &mut j);
+    counts(&rt, &mut r, &mut large, &mut j)?;
     let mut w = [0u64; 512];
-    tilings(&mut r, &mut w, &mut j);
-    small_bins(&mut r, &mut w, &mut j);
-    trees(&mut r, &mut w, &mut j);
-    say(b"damages ", j[TRIED]);
-    say(b"wrong ", j[WRONG]);
+    tilings(&rt, &mut r, &mut w, &mut j)?;
+    small_bins(&rt, &mut r, &mut w, &mut j)?;
+    trees(&rt, &mut r, &mut w, &mut j)?;
+    say(&rt, b"damages ", j[TRIED])?;
+    say(&rt, b"wrong ", j[WRONG])
 }

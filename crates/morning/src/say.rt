@@ -2,70 +2,70 @@
 use arena::answers::{Answer, Reason};
 use arena::control::Control;
 use chunk::access::{BlockOff, NONE};
-use libc::STDOUT_FILENO;
+use std::io;
 
-pub fn text(s: &[u8]) {
-    io::write_all(STDOUT_FILENO, s);
+pub fn text(rt: &impl Print, s: &[u8]) -> io::Result<()> {
+    rt.write_all(s)
 }
 
-pub fn number(n: u64) {
-    io::print_decimal(STDOUT_FILENO, n);
+pub fn number(rt: &impl Print, n: u64) -> io::Result<()> {
+    rt.print(n)
 }
 
-fn not_live(b: BlockOff) {
-    text(b"5, no live block at ");
-    number(b.0);
+fn not_live(rt: &impl Print, b: BlockOff) -> io::Result<()> {
+    text(rt, b"5, no live block at ")?;
+    number(rt, b.0)
 }
 
-fn reason(why: Reason) {
+fn reason(rt: &impl Print, why: Reason) -> io::Result<()> {
     match why {
-        Reason::BadCount => text(b"1, the word count is not allowed"),
-        Reason::Unsound => text(b"2, not sound"),
-        Reason::BadAlignment => text(b"3, no such alignment"),
-        Reason::TooMany => text(b"4, more bytes than the arena has"),
-        Reason::NotLive(b) => not_live(b),
-        Reason::NoRoom => text(b"6, no room"),
+        Reason::BadCount => text(rt, b"1, the word count is not allowed"),
+        Reason::Unsound => text(rt, b"2, not sound"),
+        Reason::BadAlignment => text(rt, b"3, no such alignment"),
+        Reason::TooMany => text(rt, b"4, more bytes than the arena has"),
+        Reason::NotLive(b) => not_live(rt, b),
+        Reason::NoRoom => text(rt, b"6, no room"),
     }
 }
 
-fn refused(why: Reason) {
-    text(b"refused: ");
-    reason(why);
+fn refused(rt: &impl Print, why: Reason) -> io::Result<()> {
+    text(rt, b"refused: ")?;
+    reason(rt, why)
 }
 
-fn usable(n: u64) {
-    number(n);
-    text(b" bytes");
+fn usable(rt: &impl Print, n: u64) -> io::Result<()> {
+    number(rt, n)?;
+    text(rt, b" bytes")
 }
 
 // The end of a call's line.
-pub fn answer(a: Answer) {
-    text(b" -> ");
+pub fn answer(rt: &impl Print, a: Answer) -> io::Result<()> {
+    text(rt, b" -> ")?;
     match a {
-        Answer::Granted(b) => number(b.0),
-        Answer::Done => text(b"done"),
-        Answer::Bytes(n) => usable(n),
-        Answer::Refused(why) => refused(why),
+        Answer::Granted(b) => number(rt, b.0)?,
+        Answer::Done => text(rt, b"done")?,
+        Answer::Bytes(n) => usable(rt, n)?,
+        Answer::Refused(why) => refused(rt, why)?,
     }
-    text(b"\n");
+    text(rt, b"\n")
 }
 
-fn place(n: u64) {
+fn place(rt: &impl Print, n: u64) -> io::Result<()> {
     if n == NONE {
-        text(b"none");
+        text(rt, b"none")
     } else {
-        number(n);
+        number(rt, n)
     }
 }
 
-pub fn record(c: Control) {
-    text(b"    top ");
-    place(c.top.0);
-    text(b", topsize ");
-    number(c.topsize);
-    text(b", dv ");
-    place(c.dv.0);
-    text(b", dvsize ");
-    number(c.dvsize);
-    text(b"\n");
+pub fn record(rt: &impl Print, c: Control) -> io::Result<()> {
+    text(rt, b"    top ")?;
+    place(rt, c.top.0)?;
+    text(rt, b", topsize ")?;
+    number(rt, c.topsize)?;
+    text(rt, b", dv ")?;
+    place(rt, c.dv.0)?;
+    text(rt, b", dvsize ")?;
+    number(rt, c.dvsize)?;
+    text(rt, b"\n")
 }

@@ -4,14 +4,17 @@ mod look;
 mod play;
 mod text;
 
+ghost use Rattle.std.specs.Io.{ReadsAtMost};
+
 use crate::play::{CALLS, DIFFER, GRANTS, LOOKS, NOT_READ, REFUSALS, play};
 use crate::text::{end_line, read_byte};
-use libc::{STDIN_FILENO, STDOUT_FILENO};
+use std::io;
+use std::io::Read;
 
-fn say(name: &[u8], n: u64) {
-    io::write_all(STDOUT_FILENO, name);
-    io::print_decimal(STDOUT_FILENO, n);
-    io::write_all(STDOUT_FILENO, b"\n");
+fn say(rt: &impl Print, name: &[u8], n: u64) -> io::Result<()> {
+    rt.write_all(name)?;
+    rt.print(n)?;
+    rt.write_all(b"\n")
 }
 
 fn play_bytes(
@@ -31,12 +34,32 @@ fn play_bytes(
     }
 }
 
-fn play_all(r: &mut [u64; 72], w: &mut [u64], t: &mut [u64; 8]) {
+// Fills the buffer, unless the input ends before: one read may hand over fewer bytes than there are. How many bytes it holds.
+fn read_full(input: &mut impl Read, buf: &mut [u8]) -> io::Result<usize>
+    ensures { ReadsAtMost result buf.new }
+{
+    let mut done: usize = 0;
+    while done < buf.len() {
+        let n = input.read(&mut buf[done..])?;
+        if n == 0 {
+            break;
+        }
+        done += n;
+    }
+    Ok(done)
+}
+
+fn play_all(
+    input: &mut impl Read,
+    r: &mut [u64; 72],
+    w: &mut [u64],
+    t: &mut [u64; 8],
+) -> io::Result<()> {
     let mut line = [0u64; 10];
-    let mut buf = io::buffer();
+    let mut buf = [0u8; 4096];
     let mut rest: u64 = 1000;
     while rest > 0 {
-        let n = io::read_full(STDIN_FILENO, &mut buf);
+        let n = read_full(input, &mut buf)?;
         play_bytes(&buf[0..n], &mut line, r, w, t);
         if n < 4096 {
             rest = 0;
@@ -46,17 +69,18 @@ fn play_all(r: &mut [u64; 72], w: &mut [u64], t: &mut [u64; 8]) {
     }
     // a last line without an end
     play_bytes(b"\n", &mut line, r, w, t);
+    Ok(())
 }
 
-fn main() {
+fn main(rt: HostRuntime) -> io::Result<()> {
     let mut t = [0u64; 8];
     let mut r = [0u64; 72];
     let mut w = [0u64; 8192];
-    play_all(&mut r, &mut w, &mut t);
-    say(b"calls ", t[CALLS]);
-    say(b"grants ", t[GRANTS]);
-    say(b"refusals ", t[REFUSALS]);
-    say(b"looks at the heap ", t[LOOKS]);
-    say(b"lines not understood ", t[NOT_READ]);
-    say(b"differ ", t[DIFFER]);
+    play_all(&mut rt.stdin(), &mut r, &mut w, &mut t)?;
+    say(&rt, b"calls ", t[CALLS])?;
+    say(&rt, b"grants ", t[GRANTS])?;
+    say(&rt, b"refusals ", t[REFUSALS])?;
+    say(&rt, b"looks at the heap ", t[LOOKS])?;
+    say(&rt, b"lines not understood ", t[NOT_READ])?;
+    say(&rt, b"differ ", t[DIFFER])
 }
