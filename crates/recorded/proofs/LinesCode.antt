@@ -5,7 +5,7 @@ use mathlib.Core.Path.{◌≡◌, refl, sym, ap, ◌∙◌}
 use Prim.Native.Nat.{ℕ, ◌+◌, ◌≤◌, ◌<◌}
 use lib.Dec.{eqb}
 use lib.ListN.{get_or, set}
-use borrow.Author.Tests.{eq-eqb, ne_eqb, lt-ltb, le-ltb, not-true, not-false}
+use borrow.Author.Tests.{eq-eqb, ne_eqb, lt-ltb, le-ltb}
 use Rattle.words.specs.Edition.{wide}
 use Rattle.chunk.specs.Bytes.{wrap}
 use Rattle.recorded.specs.Lines.{line_read, line_odd, begun, counted, ended, end_line}
@@ -64,4 +64,4 @@ module _ (l : List ℕ) (b : ℕ) (t : List ℕ) where
   unfolding end_line
   end_yes {t₁ = t₁} q o x y = ap (λ z. ended z t₁) y ∙ ap (ended (begun (set l 9 0) 0)) (x ∙ ap (λ z. counted z t) o) ∙ sym (rw (eq-eqb b 10 q) refl)
 
-pub ruleset laws = (not-true, not-false, begin_in, begin_out, read_inside, read_other, read_numbers, odd_byte, odd_none, odd_count, count_odd, count_not, end_not, end_yes)
+pub ruleset laws = (begin_in, begin_out, read_inside, read_other, read_numbers, odd_byte, odd_none, odd_count, count_odd, count_not, end_not, end_yes)
