@@ -1,5 +1,7 @@
 // The calls for C, Rust and whatever else links an archive: the record as 72 words that the caller keeps, the answer as two words.
 // A record of another length than 72 or an answer shorter than 2 is refused with 2, and nothing is written.
+#![tactic(auto)]
+
 mod answer;
 
 ghost use Rattle.std.specs.Prelude.{◌≡◌, ◌≤◌, length};

@@ -1,4 +1,6 @@
 // The nine calls that C and Rust link by name: each is the function of that name in `abi`, under the same contract.
+#![tactic(auto)]
+
 ghost use Rattle.std.specs.Prelude.{◌≡◌};
 ghost use Rattle.rules.specs.Calls.{Malloc, Free, Realloc, Memalign, Usable};
 ghost use Rattle.abi.specs.Words.{said, call_c, set_up_c, rebuild_c, sound_c, ran, batch_c};

@@ -1,5 +1,7 @@
 // The calls: set-up, malloc, free, realloc, memalign, usable, lend, rebuild, for any record, arena and numbers.
 // The record goes in and out by value.
+#![tactic(auto)]
+
 pub mod answers;
 pub mod control;
 pub mod on_image;

@@ -1,6 +1,6 @@
 -- ONE CUTTING: `records` cuts a stream as document 02 says (`records-cut`), and no second list of records does (`one_cutting`). Assumes
 -- nothing.
-use Rattle.std.specs.Prelude.{Bool, true, false, ◌&&◌, ◌⊎◌, ◌≡◌, refl, ℕ, eqb}
+use Rattle.std.specs.Prelude.{Bool, true, false, ◌&&◌, ◌≡◌, refl, ℕ, eqb}
 use mathlib.Core.List.{List, [], ◌∷◌, ◌++◌, append-nil, cons-ne-nil, head-eq_of_cons-eq}
 use Rattle.std.proofs.Common.{inl, inr, sym, ap, ◌∙◌, eqb-true}
 use Rattle.words.specs.Logic.{pick, by, false-true}

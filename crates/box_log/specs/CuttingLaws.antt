@@ -1,8 +1,7 @@
 -- THE STEPS CUT THE STREAM as its definition says: from an empty line of 64 bytes the entries handed out over the whole stream are what the
 -- stream's records say (`cut-whole`), however it comes in pieces (`in_pieces`). And what the definition says: `records-crlf`,
 -- `records_last`. Assumes nothing.
-use Rattle.std.specs.Prelude.{Bool, true, false, not, ◌&&◌, List, [], ◌∷◌, ◌++◌, map, ◌≡◌, refl, ℕ, suc, ◌+◌, ◌≤◌, ◌<◌, eqb, length, take, set}
-use Rattle.std.proofs.Common.{append-nil, ⊎_elim, sym, ap, ◌∙◌, arith, add-one, length-append, length-set, take-suc-set, lt-ltb, le-ltb, eq-eqb, ne_eqb}
+use Rattle.std.specs.Prelude.{Bool, true, not, ◌&&◌, List, [], ◌∷◌, ◌≡◌, ℕ, ◌≤◌, ◌<◌, length, take}
 use Rattle.box_log.specs.Cutting.{is_crlf, onto}
 
 -- bytes in front of the first record

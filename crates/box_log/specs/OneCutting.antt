@@ -1,8 +1,7 @@
 -- ONE CUTTING: `records` cuts a stream as document 02 says (`records-cut`), and no second list of records does (`one_cutting`). Assumes
 -- nothing.
-use Rattle.std.specs.Prelude.{Bool, true, false, ◌&&◌, ◌⊎◌, ◌≡◌, refl, ℕ, eqb}
-use mathlib.Core.List.{List, [], ◌∷◌, ◌++◌, append-nil, cons-ne-nil, head-eq_of_cons-eq}
-use Rattle.std.proofs.Common.{inl, inr, sym, ap, ◌∙◌, eqb-true}
+use Rattle.std.specs.Prelude.{true, ◌⊎◌, ◌≡◌, ℕ}
+use mathlib.Core.List.{List, [], ◌∷◌, ◌++◌}
 use Rattle.box_log.specs.CuttingLaws.{no_crlf}
 
 -- "Records end in CRLF, the last may lack it": no CRLF stands in a record; one stands behind it, or it is the last, and then it is not

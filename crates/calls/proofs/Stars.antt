@@ -1,7 +1,7 @@
 -- DOCUMENT 01'S ★ CASES, OF THE CODE: the table of `rules`, `Morning`, asked of the words level. The code's contracts are equations with it, for all inputs.
 -- One statement, with no case by case: image and words that hold a heap get every line of every case right that the rules get right on that heap.
 -- What stands between the calls (top, dv, free chunks) is looked up in the heap that they hold. Assumes nothing.
-use Rattle.std.specs.Prelude.{◌≡◌, refl, Bool, true, ◌&&◌, List, [], ◌∷◌, ℕ, ◌%◌, ◌≤◌, ◌-◌, ◌*◌, eqb, length, replicate}
+use Rattle.std.specs.Prelude.{◌≡◌, refl, true, List, [], ◌∷◌, ℕ, ◌%◌, ◌≤◌, length}
 use Rattle.std.proofs.Common.{sym, ◌∙◌, ap, subst, arith, length-set}
 use Rattle.words.specs.Edition.{Edition, wide}
 use Rattle.rules.specs.Heap.{fresh_heap}

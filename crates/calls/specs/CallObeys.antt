@@ -1,8 +1,6 @@
 -- EVERY CALL DOES WHAT THE RULES SAY: where image and words hold a heap, a call answers what the rule answers on that heap, and image and words then
 -- hold the rule's heap; the number of words stays. By the theorem of each function of the core, and exact liveness. Assumes nothing.
-use Rattle.std.specs.Prelude.{◌≡◌, refl, Bool, true, false, List, [], ◌∷◌, ℕ, ◌+◌, ◌*◌, ◌/◌, ◌%◌, ◌≤◌, ◌<◌, ltb, eqb, length}
-use Rattle.std.proofs.Common.{sym, ap, subst, arith, eqb-true, eq-eqb, ne_eqb, ltb-false}
-use Rattle.std.proofs.Math.Option.{Option, none, some}
+use Rattle.std.specs.Prelude.{◌≡◌, List, [], ◌∷◌, ℕ, ◌*◌, ◌≤◌, length}
 use Rattle.words.specs.Edition.{Edition, enc}
 use Rattle.rules.specs.Calls.{Outcome}
 use Rattle.chunk.specs.Held.{Held}

@@ -1,8 +1,7 @@
 -- WHAT A CALL REACHES: every word that is governed in none of the heaps that the call passes through, and that no move copies into, is as it was.
 -- Malloc and free pass from the heap before to the heap after; realloc and memalign are made of these. By what each function of the core
 -- reaches; a refused call writes nothing. Assumes nothing.
-use Rattle.std.specs.Prelude.{◌≡◌, refl, List, [], ◌∷◌, ℕ, ◌*◌, ◌/◌, ◌≤◌, ltb, length, get_or}
-use Rattle.std.proofs.Common.{sym, ◌∙◌, ap, subst, inl, inr, arith, ltb-false}
+use Rattle.std.specs.Prelude.{List, [], ◌∷◌, ℕ, ◌/◌}
 use Rattle.std.proofs.Math.Option.{Option, none, some}
 use Rattle.words.specs.Edition.{Edition, W}
 use Rattle.index.specs.Sizes.{need_words}

@@ -2,9 +2,7 @@
 -- blocks. Every answer is the rules' answer, so none is refused as unsound; record and arena hold the rules' heap throughout. Answers are
 -- swayed by that heap and the number of words alone. Once no block is in use the record is the fresh one, and every later list of calls is
 -- answered as a fresh arena of that length answers it. By `call_obeys`, the check that is exact, and `owner_writes`. Assumes nothing.
-use Rattle.std.specs.Prelude.{◌≡◌, refl, List, [], ◌∷◌, ℕ, ◌+◌, ◌-◌, ◌*◌, ◌/◌, ◌%◌, ◌≤◌, ◌<◌, ltb, length, get_or, set}
-use Rattle.std.proofs.Common.{sym, ◌∙◌, ap, subst, ⊎_elim, arith, eq-eqb, le-leb, ltb-true, length-set, get_or-set_other}
-use Rattle.std.proofs.Math.Option.{Option, none, some}
+use Rattle.std.specs.Prelude.{◌≡◌, List, [], ◌∷◌, ℕ, ◌+◌, ◌*◌, ◌/◌, ltb, length, set}
 use Rattle.words.specs.Logic.{pick}
 use Rattle.words.specs.Edition.{Edition, W}
 use Rattle.tiling.specs.Steps.{fresh_words}

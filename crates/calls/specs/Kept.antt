@@ -3,9 +3,7 @@
 -- stays too. By `call_leaves` at each call that does not name it; one that names it and is refused changes nothing; an owner's write in
 -- another
 -- block lies outside this one, since chunks of one list lie apart. Assumes nothing.
-use Rattle.std.specs.Prelude.{◌≡◌, refl, List, [], ◌∷◌, ◌⊎◌, ℕ, ◌+◌, ◌*◌, ◌/◌, ◌≤◌, ◌<◌, ltb, length, get_or, set}
-use Rattle.std.proofs.Common.{sym, ◌∙◌, ap, subst, inr, ⊎_elim, arith, ltb-true, get_or-set_other}
-use Rattle.std.proofs.Math.Option.{Option, none, some}
+use Rattle.std.specs.Prelude.{◌≡◌, List, [], ◌∷◌, ℕ, ◌+◌, ◌≤◌, length, get_or}
 use Rattle.words.specs.Edition.{Edition}
 use Rattle.tiling.specs.Tiling.{used, Starts}
 use Rattle.tiling.specs.Spares.{Spares}

@@ -1,9 +1,7 @@
 -- OWNERS KEEP WHAT IS THEIRS: a call leaves every block in use where it is, with its size and every one of its owner's words, but for the block that it
 -- is asked to free or to resize; and so does any history that names the block in no free, no resize and no write. A block that is resized has
 -- its old words as far as both sizes reach (`resize_keeps`). By the frame law of each function of the core. Assumes nothing.
-use Rattle.std.specs.Prelude.{◌≡◌, refl, Bool, true, false, List, [], ℕ, ◌+◌, ◌*◌, ◌/◌, ◌≤◌, ltb, length}
-use Rattle.std.proofs.Common.{sym, ◌∙◌, ap, subst, arith, ltb-false}
-use Rattle.std.proofs.Math.Option.{Option, none, some}
+use Rattle.std.specs.Prelude.{◌≡◌, List, ℕ}
 use Rattle.words.specs.Edition.{Edition}
 use Rattle.tiling.specs.Tiling.{used, Starts}
 use Rattle.tiling.specs.Spares.{Spares}

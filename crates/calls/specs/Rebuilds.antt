@@ -1,9 +1,7 @@
 -- THE REBUILD BY VALUE: refused it hands back set-up's empty record and the words as given; on words of an arena that is sound under some
 -- record it is granted, the new record holds the rules' heap, blocks stay where they are and keep their owners' words. By `RebuildLaws`
 -- (`rebuild`). Both editions. Assumes nothing.
-use Rattle.std.specs.Prelude.{◌≡◌, refl, true, false, ◌&&◌, List, [], ℕ, length}
-use Rattle.std.proofs.Common.{sym, ◌∙◌, subst}
-use Rattle.std.proofs.Math.Path.{ap}
+use Rattle.std.specs.Prelude.{◌≡◌, List, ℕ, length}
 use Rattle.words.specs.Edition.{Edition}
 use Rattle.tiling.specs.Tiling.{Chunk, used, Starts}
 use Rattle.tiling.specs.Spares.{Spares}

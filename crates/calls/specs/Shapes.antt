@@ -1,9 +1,7 @@
 -- WHAT MAY SWAY AN ANSWER: not even the shapes of the tries. Where two records and arenas of one length hold heaps that differ in nothing but
 -- these (`Alike`), every call is answered alike and leaves alike heaps, and so is every list of calls and owners' writes. By the laws of alike
 -- heaps, rule by rule, and by what each call leaves being held. Assumes nothing.
-use Rattle.std.specs.Prelude.{◌≡◌, refl, true, List, [], ◌∷◌, ℕ, ◌+◌, ◌-◌, ◌*◌, ◌/◌, ◌%◌, ◌≤◌, ◌<◌, ltb, eqb, length}
-use Rattle.std.proofs.Common.{sym, ◌∙◌, ap, ap₂, subst, ⊎_elim, arith, eq-eqb, ltb-false}
-use Rattle.std.proofs.Math.Option.{Option, none, some}
+use Rattle.std.specs.Prelude.{◌≡◌}
 use Rattle.rules.specs.Calls.{Outcome}
 use Rattle.holds.specs.Alike.{Alike}
 

@@ -3,7 +3,7 @@
 ghost use Rattle.std.specs.Prelude.{◌≡◌, ◌%◌};
 ghost use Rattle.index.specs.BinMap.{mark, clear};
 ghost use Rattle.words.specs.Edition.{wide, no_link};
-ghost use Rattle.chunk.specs.Bytes.{set_dv, set_top, Kind, small, tree, map_of, link_of, set_link, mark_r, clear_r, enter_r, relink_r};
+ghost use Rattle.chunk.specs.Bytes.{set_dv, set_top, small, tree, map_of, link_of, set_link, mark_r, clear_r, enter_r, relink_r};
 
 use crate::access::{ChunkOff, NONE};
 

@@ -1,5 +1,7 @@
 // The check on good heaps, and on heaps with one thing wrong: for each clause of what sound means at least one damage, and as far as that
 // can be had nothing else wrong. The check must refuse each, and accept the heap again once the words are put back.
+#![tactic(auto)]
+
 mod chunks;
 mod judge;
 mod small;

@@ -1,15 +1,10 @@
 -- FREE OBEYS ITS RULE: where image and words hold a heap and a block in use stands at p, what `dispose_chunk` leaves holds the rule's heap.
 -- The chunks to be merged stand between those before and those after; their free ones are loose; then one look forward decides. Assumes nothing.
-use Rattle.std.specs.Prelude.{◌≡◌, refl, Bool, eqb, length, get_or}
-use Rattle.std.proofs.Common.{sym, ◌∙◌, inl, ⊎_elim, length-set}
-use Rattle.std.proofs.Math.Path.{ap, subst}
-use Rattle.std.proofs.Math.Bool.{true, false}
-use mathlib.Core.List.{List, [], ◌∷◌, ◌++◌}
-use Rattle.std.proofs.Math.Option.{Option, none, some}
-use Prim.Native.Nat.{ℕ, ◌+◌, ◌-◌, ◌*◌, ◌%◌, ◌≤◌, ◌<◌}
-use native.Mathlib.Omega.{arith}
-use borrow.Author.Tests.{eqb-true, eqb-false, eq-eqb, ne_eqb}
-use Rattle.std.proofs.Math.Seq.{get_or-set_other}
+use Rattle.std.specs.Prelude.{◌≡◌, Bool}
+use Rattle.std.proofs.Math.Bool.{true}
+use mathlib.Core.List.{List, ◌++◌}
+use Rattle.std.proofs.Math.Option.{none}
+use Prim.Native.Nat.{ℕ, ◌%◌, ◌≤◌}
 use Rattle.words.specs.Edition.{Edition}
 use Rattle.words.specs.Fields.{count_l}
 use Rattle.tiling.specs.Tiling.{Chunk, end_of, last_use, total}

@@ -1,7 +1,8 @@
 // Port order 6: free and dispose_chunk, one function for both. A free chunk before is let go first, then what lies after is looked at.
+#![tactic(auto)]
+
 ghost use Rattle.std.specs.Prelude.{◌≡◌, true, false};
 ghost use Rattle.words.specs.Edition.{wide};
-ghost use Rattle.chunk.specs.Bytes.{Store};
 ghost use Rattle.free.specs.FreeBytes.{away_b, join_top, join_dv, join_binned, forward_b, back_b, dispose_b, free_b};
 
 use chunk::access::{ChunkOff, get, minus_offset, plus_offset, sum};

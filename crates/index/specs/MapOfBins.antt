@@ -1,7 +1,7 @@
 -- The tie between a map and a list of bins, whatever the bins are (lists of places, trees): `MapOf w bins m` says that m is the map of w bins, in
 -- terms of a yes or no, `fills`, for each bin. One law says what becomes of the map when one bin changes, for every index and every kind of
 -- bin, so that no caller goes through the 32 bins. Assumes nothing.
-use Rattle.std.specs.Prelude.{◌≡◌, ℕ, ◌^◌, ◌<◌, ◌≤◌, Bool, true, false, ◌≢◌, List, length, set, replicate, slice_index_or, slice_set, refl}
+use Rattle.std.specs.Prelude.{◌≡◌, ℕ, ◌^◌, ◌<◌, ◌≤◌, Bool, true, false, ◌≢◌, List, length, replicate, slice_index_or, slice_set, refl}
 use Rattle.std.proofs.Common.{sym, ap, ◌∙◌, subst, pow_pos, length-set, get_or-set_same, get_or-set_other}
 use Rattle.std.proofs.lemmas.List.{length-replicate, get_or-replicate}
 use Rattle.words.specs.Logic.{pick}

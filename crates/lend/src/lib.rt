@@ -1,4 +1,6 @@
 // The words of a live block, lent to its owner as a part of the arena. Total: where the call refuses, the part is empty.
+#![tactic(auto)]
+
 ghost use Rattle.std.specs.Prelude.{◌≡◌, ◌+◌, ◌*◌, set};
 ghost use Rattle.words.specs.Edition.{wide};
 ghost use Rattle.lend.specs.LendBytes.{lends_b, lent_from, lent_words, lent, back};

@@ -1,4 +1,6 @@
 // A crate of definitions and laws: nothing here runs.
+#![tactic(auto)]
+
 ghost use Rattle.std.specs.Prelude.{◌≡◌};
 
 pub fn nothing(x: u64) -> u64

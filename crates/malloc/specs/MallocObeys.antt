@@ -1,10 +1,8 @@
 -- MALLOC OBEYS ITS RULE: where image and words hold a heap, the answer is the rule's and what is left holds the rule's heap; where the rule
 -- refuses, nothing changes. By the step laws of the bins and of the tiling: each branch is a few steps, each test in bytes is the rule's test.
 -- Assumes nothing.
-use Rattle.std.specs.Prelude.{◌≡◌, refl, true, List, [], ◌∷◌, ℕ, ◌+◌, ◌-◌, ◌*◌, ◌%◌, ◌≤◌, leb, ltb, get_or}
-use Rattle.std.proofs.Common.{sym, ◌∙◌, ap, subst, arith, leb-true, leb-false, ltb-true, ltb-false, le-leb, lt-ltb, le-ltb}
+use Rattle.std.specs.Prelude.{◌≡◌, List, [], ℕ}
 use Rattle.std.proofs.Math.Option.{Option, none, some}
-use Rattle.std.proofs.lemmas.Bool.{lt-leb}
 use Rattle.words.specs.Edition.{Edition, no_link, enc}
 use Rattle.rules.specs.Malloc.{Grant}
 use Rattle.chunk.specs.Held.{Held}

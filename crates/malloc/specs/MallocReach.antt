@@ -1,14 +1,7 @@
 -- WHAT MALLOC REACHES: every word that is governed neither before the call nor after it is as it was. A chunk leaves its bin, which reaches
 -- links of the heap before; it is taken or cut, which reaches heads and a foot of the one or of the other; the rest is put away, which reaches
 -- links of the heap after. Which way it goes is the rule's (`MallocWays`). Assumes nothing.
-use Rattle.std.specs.Prelude.{◌≡◌, true, false, leb, ltb, set}
-use Rattle.std.proofs.Math.Path.{refl, ap, subst}
-use Rattle.std.proofs.Common.{sym, ◌∙◌, inl, inr, arith}
-use mathlib.Core.List.{List, [], ◌∷◌}
 use Rattle.std.proofs.Math.Option.{Option, none, some}
-use Prim.Native.Nat.{ℕ, ◌+◌, ◌-◌, ◌*◌, ◌%◌, ◌≤◌, ◌<◌}
-use borrow.Author.Tests.{ltb-true, ltb-false, leb-false, le-leb, lt-leb, lt-ltb, le-ltb}
-use Rattle.std.proofs.Math.ListN.{get_or}
 use Rattle.rules.specs.Heap.{Heap}
 use Rattle.rules.specs.Malloc as rule
 use Rattle.rules.specs.Malloc.{Grant}

@@ -1,10 +1,11 @@
 // Port order 5: malloc on the record's image and the arena. The answer is none where there is no room, and then nothing has changed.
-ghost use Rattle.std.specs.Prelude.{◌≡◌, ◌+◌};
+#![tactic(auto)]
+
+ghost use Rattle.std.specs.Prelude.{◌≡◌};
 ghost use Rattle.words.specs.Edition.{wide};
 ghost use Rattle.rules.specs.Malloc.{to_dv, to_bin};
-ghost use Rattle.chunk.specs.Bytes.{Store};
-ghost use Rattle.treebin.specs.SearchBytes.{Best, best};
-ghost use Rattle.malloc.specs.MallocBytes.{Reply, reply, serve_b, malloc_top, cut_dv, malloc_dv, take_small, take_fuller, take_tree, small_tree, malloc_fuller, malloc_small, malloc_find, malloc_b};
+ghost use Rattle.treebin.specs.SearchBytes.{best};
+ghost use Rattle.malloc.specs.MallocBytes.{reply, serve_b, malloc_top, cut_dv, malloc_dv, take_small, take_fuller, take_tree, small_tree, malloc_fuller, malloc_small, malloc_find, malloc_b};
 
 use chunk::access::{ChunkOff, NONE, difference, plus_offset, sum};
 use chunk::heads::{

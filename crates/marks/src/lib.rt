@@ -1,5 +1,7 @@
 // A set of granules of 16 bytes, a bit each, in a lent bitmap. An offset that is no granule, or lies past the set, is in no set, and nothing
 // changes for it.
+#![tactic(auto)]
+
 ghost use Rattle.std.specs.Prelude.{◌≡◌, ◌%◌};
 ghost use Rattle.words.specs.Edition.{wide};
 ghost use Rattle.index.specs.Bit.{bit};

@@ -1,10 +1,8 @@
 -- WHAT MEMALIGN REACHES: every word that is governed in none of the heaps that the call passes through is as it was. These are the heap before,
 -- malloc's heap for the sum, the heap without the lead, and the heap without the tail. A part that is cut off has a head of its own, and that
 -- is governed in the next of them. Assumes nothing.
-use Rattle.std.specs.Prelude.{◌≡◌, refl, true, ℕ, ◌+◌, ◌-◌, ◌*◌, ◌%◌, ◌≤◌, ◌<◌, ltb, eqb, get_or}
-use Rattle.std.proofs.Common.{sym, ◌∙◌, ap, inl, inr, ⊎_elim, arith, ltb-true, eq-eqb, ne_eqb}
-use Rattle.std.proofs.Math.Path.{subst}
-use mathlib.Core.List.{List, [], ◌∷◌, ◌++◌}
+use Rattle.std.specs.Prelude.{ℕ, ◌+◌}
+use mathlib.Core.List.{List, [], ◌∷◌}
 use Rattle.std.proofs.Math.Option.{Option, none, some}
 use Rattle.words.specs.Edition.{Edition}
 use Rattle.rules.specs.Heap.{Heap}

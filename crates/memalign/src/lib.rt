@@ -1,9 +1,10 @@
 // Port order 8: memalign. The alignment is of the block's offset, one of 32 to 4,096; any number may be handed in.
-ghost use Rattle.std.specs.Prelude.{◌≡◌, ◌+◌, ◌%◌};
+#![tactic(auto)]
+
+ghost use Rattle.std.specs.Prelude.{◌≡◌, ◌%◌};
 ghost use Rattle.words.specs.Edition.{wide};
-ghost use Rattle.chunk.specs.Bytes.{Store};
-ghost use Rattle.malloc.specs.MallocBytes.{Reply, reply};
-ghost use Rattle.memalign.specs.MemalignBytes.{lead_of, give_lead_b, give_tail_b, trim_b, aligned_b, memalign_b};
+ghost use Rattle.malloc.specs.MallocBytes.{reply};
+ghost use Rattle.memalign.specs.MemalignBytes.{lead_of, give_lead_b, give_tail_b, trim_b, memalign_b};
 
 use chunk::access::{ChunkOff, NONE, difference, plus_offset, sum, to_mem};
 use chunk::heads::{set_inuse, size};

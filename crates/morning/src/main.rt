@@ -1,4 +1,6 @@
 // Document 01's "A morning on 128 words", case by case, on the calls themselves: what each answers, and where top and dv stand.
+#![tactic(auto)]
+
 mod say;
 
 use arena::control::Control;

@@ -1,12 +1,7 @@
 -- THE OUTPUT IS `replayed` OF THE LOG, WHATEVER THE PIECES (`whole`). What a program writes that begins, feeds the pieces one after the
 -- other, writes after each what stands in the buffer, and at last the end's line, is said with the contracts' own definitions (`output`).
 -- Assumes nothing.
-use Rattle.std.specs.Prelude.{◌≡◌, ℕ, suc, ◌+◌, ◌*◌, ◌^◌, ◌<◌, ◌≤◌, List, [], ◌∷◌, ◌++◌, length, take, drop}
-use mathlib.Core.List.{flatten, append-nil, append_assoc}
-use Rattle.std.proofs.Math.Path.{refl, ap}
-use Rattle.std.proofs.Common.{sym, ◌∙◌, add-zero, arith, length-append, take_at, le-leb}
-use Rattle.std.proofs.lemmas.List.Edits.{sets, sets-eq}
-use Rattle.std.proofs.Math.Seq.{length-sets}
+use Rattle.std.specs.Prelude.{◌≡◌, ℕ, ◌+◌, ◌*◌, ◌≤◌, List, [], ◌∷◌, ◌++◌, length, take}
 use Rattle.box_log.specs.Answers.{header_put, header_end}
 use Rattle.box_log.specs.Cutting.{ending, out_of, line_of, place_of}
 use Rattle.box_log.specs.declared.entry.Entry.{Entry}

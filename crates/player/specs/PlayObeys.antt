@@ -1,10 +1,6 @@
 -- ONE RECORD DOES WHAT THE DEFINITION SAYS: where the words stand for the work, a record's line is the definition's, and the words then
 -- stand for its work. By `call_obeys`, the check that is exact, and what a set-up holds. Assumes nothing.
-use Rattle.std.specs.Prelude.{◌≡◌, ℕ, ◌%◌, ◌<◌, ◌≤◌, Bool, true, false, List, [], ◌++◌, length, take, drop}
-use Rattle.std.proofs.Common.{⊎_elim, sym, ap, ◌∙◌, subst, arith, take-append-drop, length-set, length-take-le, take_at}
-use Rattle.std.proofs.Math.Path.{refl}
-use Rattle.std.proofs.Math.Seq.{length_front}
-use borrow.Author.Tests.{le-leb, ne_eqb, lt-ltb, le-ltb}
+use Rattle.std.specs.Prelude.{◌≡◌, ℕ, ◌≤◌, List, [], length, take}
 use Rattle.words.specs.Edition.{wide}
 use Rattle.rules.specs.Heap.{Heap}
 use Rattle.rules.specs.Calls as rules

@@ -100,7 +100,7 @@ first = ruled_so three (Malloc 24)
 pub smallest_tree : (z u : ℕ) → TreeChunk (c three) (heap three) z u → 34 ≤ u
 unfolding need_words need round_up tree_index min_size huge bit
 smallest_tree z u tc =
-    let t = requests_kept.fit.small_tree_lem (c three) (w three) (heap three) 24 38 46 (holds three) (omega arith)
+    let t = requests_kept.fit.small_tree (c three) (w three) (heap three) 24 38 46 (holds three) (omega arith)
     (within three 24 (omega arith))
     (omega (arith, no_spare)) bins_bare second_tree in
     let x : t.0 ≡ 0 = omega (arith, ap value (sym t.3 ∙ first)) in

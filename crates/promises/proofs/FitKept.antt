@@ -275,8 +275,8 @@ module _ (c : Control) (w : List ℕ) (h : Heap) (n : Holds wide c w h) where
     Smallest =
         (y : ℕ) × (t : ℕ) × TreeChunk c h y t × (says c w (Malloc x) ≡ granted (block_of wide y)) × ((z u : ℕ) → TreeChunk c h z u → t ≤ u)
 
-    small_tree_lem : (y t : ℕ) → c.dv_size < 8 * nb → Empty h nb 32 → TreeChunk c h y t → Smallest
-    small_tree_lem y t less e tc = go small
+    small_tree : (y t : ℕ) → c.dv_size < 8 * nb → Empty h nb 32 → TreeChunk c h y t → Smallest
+    small_tree y t less e tc = go small
       where
         go : SmallWays h nb (malloc wide h nb) → Smallest
         go (at_own z zs r a) = nothing (get_or h.small nb []) (bare 32 (omega (arith, s)) e) r
@@ -371,7 +371,7 @@ fit =
       small_own = λ c w h x y ys n s l q. small_own c w h n x s l y ys q;
       small_dv = λ c w h x n s l q d. small_dv c w h n x s l q d;
       small_fuller = λ c w h x j y ys n s l d lo hi e q. small_fuller c w h n x s l j y ys d lo hi e q;
-      small_tree_lem = λ c w h x y t n s l d e tc. small_tree_lem c w h n x s l y t d e tc;
+      small_tree = λ c w h x y t n s l d e tc. small_tree c w h n x s l y t d e tc;
       either_order = either_order;
       any_order = λ c w h offs offs' n q. any_order c w h n offs offs' q;
     }

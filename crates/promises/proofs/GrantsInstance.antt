@@ -293,7 +293,7 @@ none_lent =
 pub lent-word : get_or (lent wide (image (then zeros before).control) (then zeros before).words 16) 0 0 ≡ 7
 unfolding need_words need round_up tree_index min_size huge
 lent-word =
-    kept.lends.lent_words_lem (then zeros before).control (then zeros before).words (after_all before) 0 4 0 (held zeros count_128 before)
+    kept.lends.lent_words (then zeros before).control (then zeros before).words (after_all before) 0 4 0 (held zeros count_128 before)
     (inl (refl, refl)) (omega arith) ∙ kept_seven
 
 pub stored : back wide (image (then zeros before).control) (then zeros before).words 16
@@ -335,4 +335,4 @@ bad_set_up = refl
 
 pub one_set_up : (d : arena.Control) (v : List ℕ) (a : code.Answer) → ends (answer_of a) (numbers d) v ≡ set_up_a wide (replicate 14 0)
     → (a ≡ Refused BadCount) × (d ≡ empty) × (v ≡ replicate 14 0)
-one_set_up d v a p = kept.settled.set_up_lem d empty (replicate 14 0) v (replicate 14 0) a (Refused BadCount) p bad_set_up
+one_set_up d v a p = kept.settled.set_up d empty (replicate 14 0) v (replicate 14 0) a (Refused BadCount) p bad_set_up

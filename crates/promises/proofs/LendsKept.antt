@@ -47,6 +47,6 @@ lends =
     record {
       lent_bytes = lent_bytes;
       empty_as_refused = empty_as_refused;
-      lent_words_lem = lent_words_lem;
+      lent_words = lent_words_lem;
       store_writes = λ c w h off i v n. store_writes wide (box c w) h n off i v;
     }

@@ -105,5 +105,5 @@ pub settled : Settled
 settled =
     record {
       call = λ c d d' w v v' k a a' p q. one (call_a wide (numbers c) w k) d d' v v' a a' p q;
-      set_up_lem = λ d d' w v v' a a' p q. one (set_up_a wide w) d d' v v' a a' p q;
+      set_up = λ d d' w v v' a a' p q. one (set_up_a wide w) d d' v v' a a' p q;
     }

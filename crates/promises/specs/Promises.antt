@@ -255,7 +255,7 @@ pub record Lends : Type 0 where
   pub lent_bytes : (c : Control) (w : List ℕ) (off n : ℕ) → says c w (Usable off) ≡ bytes n → 8 * length (lent wide (image c) w off) ≡ n
   pub empty_as_refused : (c : Control) (w : List ℕ) (off : ℕ) → lent wide (image c) w off ≡ [] ↔ (refused_by c w (Usable off) ≡ 0 → ⊥)
   -- They are the block's own: from word 2 of its chunk on.
-  pub lent_words_lem : (c : Control) (w : List ℕ) (h : Heap) (x s i : ℕ) → Holds wide c w h → Starts 0 h.chunks x (used s)
+  pub lent_words : (c : Control) (w : List ℕ) (h : Heap) (x s i : ℕ) → Holds wide c w h → Starts 0 h.chunks x (used s)
       → 8 * i < 8 * s - 8 → get_or (lent wide (image c) w (block_of wide x)) i 0 ≡ get_or w (x + 2 + i) 0
   -- A word of them written, and the part given back, is the event `writes` of a history.
   pub store_writes : (c : Control) (w : List ℕ) (h : Heap) (off i v : ℕ) → Holds wide c w h
@@ -309,7 +309,7 @@ pub record Settled : Type 0 where
   pub call : (c d d' : arena.Control) (w v v' : List ℕ) (k : Call) (a a' : code.Answer)
       → ends (answer_of a) (numbers d) v ≡ call_a wide (numbers c) w k → ends (answer_of a') (numbers d') v' ≡ call_a wide (numbers c) w k
       → (a ≡ a') × (d ≡ d') × (v ≡ v')
-  pub set_up_lem : (d d' : arena.Control) (w v v' : List ℕ) (a a' : code.Answer)
+  pub set_up : (d d' : arena.Control) (w v v' : List ℕ) (a a' : code.Answer)
       → ends (answer_of a) (numbers d) v ≡ set_up_a wide w → ends (answer_of a') (numbers d') v' ≡ set_up_a wide w
       → (a ≡ a') × (d ≡ d') × (v ≡ v')
 

@@ -1,8 +1,6 @@
 -- REQUEST (xiii) IN NUMBERS, on 128 words: document 01's state D loses its record, is rebuilt, serves, is rebuilt again, and all is given
 -- back; in which order free chunks of one size then stand in their bin; and what is refused. Computed. Assumes nothing.
-use Rattle.std.specs.Prelude.{◌≡◌, refl, List, [], ◌∷◌, ◌++◌, ℕ, ◌+◌, get_or, replicate}
-use Rattle.std.proofs.Common.{sym, ◌∙◌, ap, subst, inl, inr, arith}
-use Rattle.std.proofs.Math.Option.{none, some}
+use Rattle.std.specs.Prelude.{◌≡◌, refl, List, [], ◌∷◌, ◌++◌, get_or}
 use Rattle.words.specs.Edition.{wide}
 use Rattle.index.specs.Sizes.{need_words, need, round_up}
 use Rattle.index.specs.TreeBin.{tree_index, min_size}

@@ -231,7 +231,7 @@ pub record Fit : Type 0 where
       → n ≤ 8 * length w → c.dv_size < 8 * need_words 8 n → need_words 8 n < j → j < 32 → Empty h (need_words 8 n) j
       → get_or h.small j [] ≡ x ∷ xs → says c w (Malloc n) ≡ granted (block_of wide x)
   -- else, if there is a tree chunk, the smallest. (Else the top or 6, by `bins_first` and row 6 of document 01's table.)
-  pub small_tree_lem : (c : Control) (w : List ℕ) (h : Heap) (n y t : ℕ) → Holds wide c w h → 8 * need_words 8 n < 256
+  pub small_tree : (c : Control) (w : List ℕ) (h : Heap) (n y t : ℕ) → Holds wide c w h → 8 * need_words 8 n < 256
       → n ≤ 8 * length w → c.dv_size < 8 * need_words 8 n → Empty h (need_words 8 n) 32 → TreeChunk c h y t
       → (x : ℕ) × (s : ℕ) × TreeChunk c h x s × (says c w (Malloc n) ≡ granted (block_of wide x)) × ((z u : ℕ) → TreeChunk c h z u → s ≤ u)
   -- Two different live blocks, given back in either order: both calls are done, and what stands then are the same chunks, heads and feet.

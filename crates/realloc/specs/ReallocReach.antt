@@ -1,11 +1,8 @@
 -- WHAT REALLOC REACHES: every word that is governed in none of the heaps that the call passes through, and that a move does not copy into, is as
 -- it was. In place these are the heap before and the heap after; a move passes through malloc's heap, copies the old chunk's words into the
 -- new block, and gives the old one back. Assumes nothing.
-use Rattle.std.specs.Prelude.{◌≡◌, List, [], ◌∷◌, ℕ, ◌+◌, ◌-◌, ◌*◌, ◌%◌, ◌≤◌, ◌<◌, get_or}
-use Rattle.std.proofs.Math.Path.{refl, subst}
-use Rattle.std.proofs.Common.{sym, ◌∙◌, ap, inl, inr, ⊎_elim, arith}
+use Rattle.std.specs.Prelude.{◌≡◌, List, [], ◌∷◌, ℕ, ◌+◌, ◌≤◌}
 use Rattle.std.proofs.Math.Option.{Option, none, some}
-use borrow.Author.Tests.{eq-eqb, ne_eqb}
 use Rattle.words.specs.Edition.{Edition}
 use Rattle.rules.specs.Heap.{Heap}
 use Rattle.rules.specs.Malloc.{Grant, malloc}

@@ -1,14 +1,7 @@
 -- WHAT A RESIZE IN PLACE REACHES: every word that is governed neither before it nor after it is as it was. Cutting a block writes two heads, its
 -- own and that of the part that is given back, and there, what is given back begins; growing writes the block's head, and heads and a foot of
 -- the free chunk, or of the top, behind it. Where the rule says no, nothing has changed. Assumes nothing.
-use Rattle.std.specs.Prelude.{◌≡◌, Bool, false, ◌⊎◌, ℕ, ◌+◌, ◌-◌, ◌*◌, ◌%◌, ◌≤◌, ◌<◌, leb, ltb, eqb, length, set}
-use Rattle.std.proofs.Math.Path.{refl, ap, subst}
-use Rattle.std.proofs.Common.{sym, ◌∙◌, inl, inr, ⊎_elim, arith, get_or-set_other}
-use Rattle.std.proofs.Math.Bool.{true}
-use mathlib.Core.List.{List, [], ◌∷◌, ◌++◌}
 use Rattle.std.proofs.Math.Option.{Option, none, some}
-use borrow.Author.Tests.{leb-false, ltb-false, le-leb, lt-leb, lt-ltb, eq-eqb, ne_eqb}
-use Rattle.std.proofs.Math.ListN.{get_or}
 use Rattle.rules.specs.Heap.{Heap}
 
 -- the heap that trying in place leaves: where the place is too small, as it was

@@ -1,9 +1,10 @@
 // Port order 7: realloc. Its own place first; a neighbour is unlinked only when the sum is known to be enough.
+#![tactic(auto)]
+
 ghost use Rattle.std.specs.Prelude.{◌≡◌, true, false, ◌+◌, ◌-◌, ◌≤◌, length};
 ghost use Rattle.words.specs.Edition.{wide};
-ghost use Rattle.chunk.specs.Bytes.{Store};
-ghost use Rattle.malloc.specs.MallocBytes.{Reply, reply};
-ghost use Rattle.realloc.specs.ReallocBytes.{Tried, tried, cut_back, shrink_b, grow_top, grow_dv, grow_binned, try_realloc, copy_up, copy_words, move_block, realloc_b};
+ghost use Rattle.malloc.specs.MallocBytes.{reply};
+ghost use Rattle.realloc.specs.ReallocBytes.{tried, cut_back, shrink_b, grow_top, grow_dv, grow_binned, try_realloc, copy_up, copy_words, move_block, realloc_b};
 
 use chunk::access::{ChunkOff, NONE, difference, plus_offset, sum};
 use chunk::heads::{

@@ -1,7 +1,7 @@
 -- The free chunks enter their bins one after another: `Held` with all of them loose, a step of `insert_chunk` for each, and at the end
 -- nothing is loose. Heads are read from the words as the steps leave them; a step changes no head, because what it leaves is held with
 -- the same chunks. The words that are written are links of the heap that is left. Both editions. Assumes nothing.
-use Rattle.std.specs.Prelude.{◌≡◌, refl, Bool, true, false, List, [], ◌∷◌, ℕ, zero, suc, ◌+◌, ◌*◌, ◌/◌, ◌≤◌, ◌<◌, length, get_or, set}
+use Rattle.std.specs.Prelude.{◌≡◌, refl, true, false, List, [], ◌∷◌, ℕ, zero, suc, ◌+◌, ◌*◌, ◌/◌, ◌≤◌, ◌<◌, length, get_or, set}
 use Rattle.std.proofs.Common.{sym, ◌∙◌, ap, subst, inl, inr, ⊎_elim, arith, get_or-set_same, get_or-set_other, eq-eqb, lt-ltb, le-ltb}
 use Rattle.words.specs.Logic.{pick, by, same?}
 use Rattle.words.specs.Edition.{Edition, W, enc}

@@ -2,11 +2,8 @@
 -- document 01's "Sound"; what it leaves is then held, with those chunks and no spare chunk, and passes the check; it wrote links of free
 -- chunks only, so every owner's words are as they were. Refused, it hands back the empty record and the words as given. Both editions,
 -- every arena. Assumes nothing.
-use Rattle.std.specs.Prelude.{◌≡◌, true, false, ◌&&◌, ℕ, ◌+◌, ◌-◌, ◌*◌, ◌%◌, ◌≤◌, ◌<◌, eqb, length, get_or, replicate}
-use Rattle.std.proofs.Math.Path.{refl, sym}
-use Rattle.std.proofs.Common.{◌∙◌, ap, subst, inl, inr, ⊎_elim, arith, eqb-true, eq-eqb, ne_eqb, le-ltb}
+use Rattle.std.specs.Prelude.{◌≡◌, true, ℕ, ◌+◌, ◌≤◌, length}
 use mathlib.Core.List.{List, []}
-use Rattle.std.proofs.lemmas.List.{get_or-replicate}
 use Rattle.words.specs.Logic.{pick}
 use Rattle.words.specs.Edition.{Edition}
 use Rattle.tiling.specs.Tiling.{Chunk, used, free, Heads, Starts}

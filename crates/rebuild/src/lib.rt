@@ -1,8 +1,9 @@
 // Document 02, (xiii): the rebuild after a lost record. One walk of the heads finds the top, a second enters the free chunks into their
 // bins, from the lowest offset up. Total: any words have an answer. The record that it makes stands as 72 words.
+#![tactic(auto)]
+
 ghost use Rattle.std.specs.Prelude.{◌≡◌, true};
 ghost use Rattle.words.specs.Edition.{wide, no_link};
-ghost use Rattle.chunk.specs.Bytes.{Store};
 ghost use Rattle.marks.specs.Marks.{turns};
 ghost use Rattle.rebuild.specs.RebuildBytes.{top_here, seek_top, top_of, enter_b, fill_from, empty_image, allowed_start, rebuilt, rebuild_b};
 

@@ -1,5 +1,7 @@
 // Replays the crate's recorded answers, read from standard input, on the calls; says how many calls there were and how many answers differ.
 // What the lines mean stands at the top of the record.
+#![tactic(auto)]
+
 mod look;
 mod play;
 mod text;

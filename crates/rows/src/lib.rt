@@ -1,4 +1,6 @@
 // Rows 3 and 4 of document 01's table, asked by the calls one at a time and by the batch alike.
+#![tactic(auto)]
+
 ghost use Rattle.std.specs.Prelude.{◌≡◌, ◌*◌, ltb};
 ghost use Rattle.words.specs.Edition.{W, wide};
 ghost use Rattle.rules.specs.Calls.{is_in, alignments};

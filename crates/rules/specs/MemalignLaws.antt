@@ -1,11 +1,8 @@
 -- MEMALIGN'S GRANT: malloc's block for nb + al + 4 words, its lead given back, then its tail: three grants, each in the place of the one before.
 -- The lead is even, none or more than 4 words, and at most al + 4, so what is left holds the need; the place behind it is aligned. What is
 -- granted has nb words, or up to 4 more. Assumes nothing.
-use Rattle.std.specs.Prelude.{◌≡◌, refl, true, ◌↔◌, ℕ, suc, ◌+◌, ◌-◌, ◌*◌, ◌/◌, ◌≤◌, ◌<◌, ◌%◌, ltb, eqb}
-use Rattle.std.proofs.Common.{sym, ◌∙◌, ap, subst, arith, div-mul-le_self, mul_left_comm, suc-mul, ltb-true, ltb-false, eqb-true}
+use Rattle.std.specs.Prelude.{◌≡◌, ℕ, ◌+◌, ◌*◌, ◌≤◌, ◌<◌, ◌%◌}
 use Rattle.std.proofs.Math.Option.{Option, none, some}
-use Rattle.std.proofs.Math.Nat.{lt-div-mul-add}
-use Rattle.std.proofs.lemmas.Bool.{eqb-false}
 use Rattle.rules.specs.Heap.{Heap}
 use Rattle.rules.specs.Malloc.{Grant}
 use Rattle.rules.specs.Memalign.{aligned}

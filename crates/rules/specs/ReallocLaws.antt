@@ -1,8 +1,7 @@
 -- REALLOC: its own place first, by shrinking, or by growing into the top or into the free chunk after it; else it moves, malloc then free. What
 -- it grants has nb words, or less than 4 more, the old block is gone, every other one stays, the heap stays tidy and the total stays. Refusal 6
 -- exactly when its own place does not hold the need and malloc refuses. Each way to grow is one retiling step. Assumes nothing.
-use Rattle.std.specs.Prelude.{◌≡◌, refl, List, [], ◌∷◌, ◌++◌, ◌↔◌, ℕ, ◌+◌, ◌-◌, ◌≤◌, ◌<◌, ◌%◌, leb, ltb}
-use Rattle.std.proofs.Common.{sym, ◌∙◌, ap, subst, inl, ⊎_elim, arith, leb-true, leb-false, ltb-true}
+use Rattle.std.specs.Prelude.{◌≡◌, ℕ, ◌+◌}
 use Rattle.std.proofs.Math.Option.{Option, none, some}
 use Rattle.rules.specs.Heap.{Heap}
 use Rattle.rules.specs.Blocks.{Granted}

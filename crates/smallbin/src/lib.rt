@@ -1,7 +1,8 @@
 // Port order 3: small bins, last in, first out. Plain heads in the record, none at the ends; a link to none writes nothing.
+#![tactic(auto)]
+
 ghost use Rattle.std.specs.Prelude.{◌≡◌};
 ghost use Rattle.words.specs.Edition.{wide};
-ghost use Rattle.chunk.specs.Bytes.{Store};
 ghost use Rattle.smallbin.specs.SmallBytes.{link_new_w, join_w, insert_small, unlink_small, unlink_first};
 
 use chunk::access::{ChunkOff, NONE, link, put};

@@ -1,5 +1,7 @@
 // Port order 9: the check, and which blocks are live in what it has accepted. Total: any record and any words have an answer.
 // One walk of the heads marks the free chunks; each bin is walked once and takes the marks of what it holds; at the end none is left.
+#![tactic(auto)]
+
 ghost use Rattle.std.specs.Prelude.{◌≡◌};
 ghost use Rattle.words.specs.Edition.{wide};
 ghost use Rattle.marks.specs.Marks.{checked, turns};

@@ -1,4 +1,6 @@
 // The tiling: the chunks from 0 to the top, and the top. One walk of the heads marks the free chunks.
+#![tactic(auto)]
+
 ghost use Rattle.std.specs.Prelude.{◌≡◌, true};
 ghost use Rattle.words.specs.Logic.{pick};
 ghost use Rattle.words.specs.Edition.{wide};

@@ -1,7 +1,6 @@
 // Both kinds of bin, by the size; and the spare chunk.
 ghost use Rattle.std.specs.Prelude.{◌≡◌};
 ghost use Rattle.words.specs.Edition.{wide};
-ghost use Rattle.chunk.specs.Bytes.{Store};
 ghost use Rattle.treebin.specs.Binning.{insert_chunk, unlink_chunk, replace_dv};
 
 use crate::insert::insert_large_chunk;

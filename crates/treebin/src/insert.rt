@@ -1,8 +1,8 @@
 // Insertion: a newcomer becomes the root, a child, or the last of a ring.
-ghost use Rattle.std.specs.Prelude.{◌≡◌, ◌<◌};
+ghost use Rattle.std.specs.Prelude.{◌≡◌};
 ghost use Rattle.words.specs.Edition.{wide, no_link};
-ghost use Rattle.chunk.specs.Bytes.{Store, put};
-ghost use Rattle.treebin.specs.TreeBytes.{Seat, seat, child_word, next_key, seek_b, tie_w, slot_w, ring_w, seat_w, insert_large};
+ghost use Rattle.chunk.specs.Bytes.{put};
+ghost use Rattle.treebin.specs.TreeBytes.{seat, child_word, next_key, seek_b, tie_w, slot_w, ring_w, seat_w, insert_large};
 
 use chunk::access::{ChunkOff, NONE, ROOT, link, put};
 use chunk::heads::size;

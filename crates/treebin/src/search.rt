@@ -1,7 +1,7 @@
 // The searches of tmalloc_small and tmalloc_large: the best node by its remainder.
 ghost use Rattle.std.specs.Prelude.{◌≡◌, ◌+◌};
 ghost use Rattle.words.specs.Edition.{wide, no_link};
-ghost use Rattle.treebin.specs.SearchBytes.{Best, best, no_best, better_b, leftmost, down_b, passed_by, Walked, walked, walk_b, best_above, best_own, best_tree};
+ghost use Rattle.treebin.specs.SearchBytes.{best, no_best, better_b, leftmost, down_b, passed_by, walked, walk_b, best_above, best_tree};
 
 use crate::insert::child_word;
 use chunk::access::{ChunkOff, NONE, link};

@@ -2,8 +2,8 @@
 ghost use Rattle.std.specs.Prelude.{◌≡◌, eqb};
 ghost use Rattle.words.specs.Logic.{pick};
 ghost use Rattle.words.specs.Edition.{wide};
-ghost use Rattle.chunk.specs.Bytes.{Store, word, put};
-ghost use Rattle.treebin.specs.TreeBytes.{Seat, seat, last_side, deep_b, pop_w, pop_heir, lead_r, lead_w, adopt_w, replace_tree, unlink_large};
+ghost use Rattle.chunk.specs.Bytes.{word, put};
+ghost use Rattle.treebin.specs.TreeBytes.{seat, last_side, deep_b, pop_w, pop_heir, lead_r, lead_w, adopt_w, replace_tree, unlink_large};
 
 use crate::insert::Place;
 use chunk::access::{ChunkOff, NONE, ROOT, get, link, put};

@@ -1,6 +1,5 @@
 -- Best fit: the walk of `tmalloc_large` and the descent of `tmalloc_small` find the smallest size that fits.
-use Rattle.std.specs.Prelude.{◌≡◌, refl, List, ◌⊎◌, ℕ, zero, suc, ◌+◌, ◌≤◌, ◌<◌, T, eqb, leb, ltb}
-use Rattle.std.proofs.Common.{◌∙◌, ap, inl, inr, ⊎_elim, arith, eqb-true, leb-true, leb-false, ltb-true, ltb-false}
+use Rattle.std.specs.Prelude.{◌≡◌, ◌⊎◌, ℕ, zero, suc, ◌≤◌, eqb, leb, ltb}
 use Rattle.words.specs.Logic.{pick}
 use Rattle.tries.specs.Bits.{bit}
 use Rattle.tries.specs.Tree.{Tree, leaf, node, is_leaf, All, Has}

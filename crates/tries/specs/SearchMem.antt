@@ -1,7 +1,5 @@
 -- Best fit on the fields: L1 of the searches, and that it is the search on the tree.
-use Rattle.std.specs.Prelude.{◌≡◌, refl, ◌⊎◌, ℕ, zero, suc, ◌+◌, ◌≤◌, ◌<◌, ◌/◌, eqb}
-use Rattle.std.proofs.Common.{sym, ◌∙◌, ap, subst, arith, eq-eqb, ne_eqb}
-use Rattle.std.proofs.Math.Nat.{mul-div_cancel_left, mul-add-div, div-eq_of_lt}
+use Rattle.std.specs.Prelude.{ℕ, zero, suc, ◌/◌, eqb}
 use Rattle.words.specs.Fields.{Mem}
 use Rattle.words.specs.Logic.{pick}
 use Rattle.words.specs.Edition.{Edition, W, no_link}

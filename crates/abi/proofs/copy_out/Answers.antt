@@ -1,8 +1,7 @@
-use mathlib.Core.Path.{◌≡◌, sym, ◌∙◌}
-use Prim.Native.Nat.{◌-◌, ◌≤◌}
+use mathlib.Core.Path.{sym, ◌∙◌}
 use native.Mathlib.Omega.{arith}
-use lib.ListN.{length, length-set}
-use Rattle.abi.proofs.AbiCode.{Agree, agree_next, agree_reads}
+use lib.ListN.{length-set}
+use Rattle.abi.proofs.AbiCode.{agree_next, agree_reads}
 use Rattle.abi.proofs.copy_out.Goals as goal
 
 pub loop-i-init : goal.loop-i-init

@@ -1,5 +1,4 @@
 use Rattle.abi.proofs.AbiCode.{copied_is}
-use borrow.Author.Rules.{rules}
 use Rattle.abi.proofs.hand_out.Goals as goal
 
 pub returns : goal.returns

@@ -1,8 +1,7 @@
-use mathlib.Core.Path.{◌≡◌, refl}
-use Prim.Native.Nat.{◌-◌, ◌≤◌}
+use mathlib.Core.Path.{refl}
 use native.Mathlib.Omega.{arith}
-use lib.ListN.{length, length-set}
-use Rattle.abi.proofs.AbiCode.{Agree, agree_next, agree_all}
+use lib.ListN.{length-set}
+use Rattle.abi.proofs.AbiCode.{agree_next, agree_all}
 use Rattle.abi.proofs.image_in.Goals as goal
 
 pub loop-i-init : goal.loop-i-init

@@ -1,8 +1,7 @@
-use mathlib.Core.Path.{◌≡◌, refl}
+use mathlib.Core.Path.{◌≡◌}
 use Prim.Native.Nat.{◌-◌, ◌≤◌}
-use native.Mathlib.Omega.{arith}
-use lib.ListN.{length, length-set}
-use Rattle.abi.proofs.AbiCode.{Agree, agree_next, agree_all}
+use lib.ListN.{length}
+use Rattle.abi.proofs.AbiCode.{Agree}
 use Rattle.abi.proofs.image_in.Given as goal
 
 abbrev pub invariant-loop-i : goal.invariant-loop-i

@@ -1,6 +1,4 @@
-use borrow.Author.Tests.{not-true, not-false}
 use Rattle.abi.proofs.AbiCode.{lent_72, lent_2, rebuild_lost, rebuild_said}
-use borrow.Author.Rules.{rules}
 use Rattle.abi.proofs.nuka_rebuild.Goals as goal
 
 pub returns-then-not-lent_ok : goal.returns-then-not-lent_ok

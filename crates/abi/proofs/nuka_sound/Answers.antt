@@ -1,6 +1,4 @@
-use borrow.Author.Tests.{not-true, not-false}
 use Rattle.abi.proofs.AbiCode.{sound_short, sound_count, sound_odd, sound_is, sound_not}
-use borrow.Author.Rules.{rules}
 use Rattle.abi.proofs.nuka_sound.Goals as goal
 
 pub returns-then-rec-ne72 : goal.returns-then-rec-ne72

@@ -1,6 +1,5 @@
 use mathlib.Core.Path.{refl}
 use Rattle.arena.proofs.CallsCode.{hand_granted, hand_done, hand_bytes, hand_refused}
-use borrow.Author.Rules.{rules}
 use Rattle.arena.proofs.hand_back.Goals as goal
 
 pub returns-in-Granted : goal.returns-in-Granted

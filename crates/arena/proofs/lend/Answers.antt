@@ -1,5 +1,4 @@
 use Rattle.arena.proofs.CallsCode.{lent_of, lent_from_lem}
-use borrow.Author.Rules.{rules}
 use Rattle.arena.proofs.lend.Goals as goal
 
 pub returns : goal.returns

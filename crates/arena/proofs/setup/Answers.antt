@@ -1,8 +1,6 @@
 use native.Mathlib.Omega.{arith}
 use lib.ListN.{length-set}
-use borrow.Author.Tests.{not-true, not-false}
 use Rattle.arena.proofs.CallsCode.{setup_refused, setup_done, setup_long}
-use borrow.Author.Rules.{rules}
 use Rattle.arena.proofs.setup.Goals as goal
 
 pub returns-then-not-words_ok : goal.returns-then-not-words_ok

@@ -1,6 +1,4 @@
-use Prim.Native.Nat.{◌-◌}
-use Rattle.batch.specs.BatchBytes.{kept}
-use Rattle.batch.proofs.BatchCode.{Running, run_asks, laws}
+use Rattle.batch.proofs.BatchCode.{run_asks, laws}
 use borrow.Author.Rules.{rules}
 use Rattle.batch.proofs.all.Goals as goal
 

@@ -1,7 +1,6 @@
 use Prim.Native.Nat.{◌-◌}
 use Rattle.batch.specs.BatchBytes.{kept}
-use Rattle.batch.proofs.BatchCode.{Running, run_asks, laws}
-use borrow.Author.Rules.{rules}
+use Rattle.batch.proofs.BatchCode.{Running}
 use Rattle.batch.proofs.all.Given as goal
 
 abbrev pub invariant-loop-i : goal.invariant-loop-i

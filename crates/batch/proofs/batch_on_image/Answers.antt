@@ -1,4 +1,3 @@
-use borrow.Author.Tests.{not-true, not-false}
 use Rattle.batch.proofs.BatchCode.{batch_unsound, batch_lists, batch_ran, lists_room, laws}
 use borrow.Author.Rules.{rules}
 use Rattle.batch.proofs.batch_on_image.Goals as goal

@@ -1,4 +1,4 @@
-use Rattle.live.proofs.LiveCode.{Filling, laws}
+use Rattle.live.proofs.LiveCode.{laws}
 use borrow.Author.Rules.{rules}
 use Rattle.live.proofs.fill.Goals as goal
 

@@ -1,5 +1,4 @@
-use Rattle.live.proofs.LiveCode.{Filling, laws}
-use borrow.Author.Rules.{rules}
+use Rattle.live.proofs.LiveCode.{Filling}
 use Rattle.live.proofs.fill.Given as goal
 
 abbrev pub invariant-loop-left : goal.invariant-loop-left

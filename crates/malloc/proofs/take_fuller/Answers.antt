@@ -1,5 +1,4 @@
 use Rattle.malloc.proofs.Laws.{fuller_taken}
-use borrow.Author.Rules.{rules}
 use Rattle.malloc.proofs.take_fuller.Goals as goal
 
 pub returns : goal.returns

@@ -1,5 +1,4 @@
 use Rattle.malloc.proofs.Laws.{small_taken}
-use borrow.Author.Rules.{rules}
 use Rattle.malloc.proofs.take_small.Goals as goal
 
 pub returns : goal.returns

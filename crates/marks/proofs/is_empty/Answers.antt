@@ -1,7 +1,5 @@
-use Rattle.marks.specs.Marks.{mark_words}
-use Prim.Native.Nat.{◌-◌}
 use borrow.Author.Rules.{rules}
-use Rattle.marks.proofs.MarksCode.{Empties, laws}
+use Rattle.marks.proofs.MarksCode.{laws}
 use Rattle.marks.proofs.is_empty.Goals as goal
 
 pub loop-i-init : goal.loop-i-init

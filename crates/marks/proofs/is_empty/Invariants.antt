@@ -1,7 +1,6 @@
 use Rattle.marks.specs.Marks.{mark_words}
 use Prim.Native.Nat.{◌-◌}
-use borrow.Author.Rules.{rules}
-use Rattle.marks.proofs.MarksCode.{Empties, laws}
+use Rattle.marks.proofs.MarksCode.{Empties}
 use Rattle.marks.proofs.is_empty.Given as goal
 
 abbrev pub invariant-loop-i : goal.invariant-loop-i

@@ -1,6 +1,5 @@
-use Prim.Native.Nat.{◌-◌}
 use native.Mathlib.Omega.{arith}
-use Rattle.realloc.proofs.Laws.{Copying, laws}
+use Rattle.realloc.proofs.Laws.{laws}
 use borrow.Author.Rules.{rules}
 use Rattle.realloc.proofs.copy_up.Goals as goal
 

@@ -1,7 +1,5 @@
 use Prim.Native.Nat.{◌-◌}
-use native.Mathlib.Omega.{arith}
-use Rattle.realloc.proofs.Laws.{Copying, laws}
-use borrow.Author.Rules.{rules}
+use Rattle.realloc.proofs.Laws.{Copying}
 use Rattle.realloc.proofs.copy_up.Given as goal
 
 abbrev pub invariant-loop-i : goal.invariant-loop-i

@@ -1,5 +1,4 @@
-use Rattle.rebuild.proofs.RebuildCode.{FillsOn, laws}
-use Rattle.words.specs.Edition.{wide}
+use Rattle.rebuild.proofs.RebuildCode.{laws}
 use borrow.Author.Rules.{rules}
 use Rattle.rebuild.proofs.fill.Goals as goal
 

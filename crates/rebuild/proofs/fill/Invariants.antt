@@ -1,6 +1,5 @@
-use Rattle.rebuild.proofs.RebuildCode.{FillsOn, laws}
+use Rattle.rebuild.proofs.RebuildCode.{FillsOn}
 use Rattle.words.specs.Edition.{wide}
-use borrow.Author.Rules.{rules}
 use Rattle.rebuild.proofs.fill.Given as goal
 
 abbrev pub invariant-loop-left : goal.invariant-loop-left

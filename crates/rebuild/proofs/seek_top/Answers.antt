@@ -1,5 +1,4 @@
-use Rattle.rebuild.proofs.RebuildCode.{Seeking, laws}
-use Rattle.words.specs.Edition.{wide}
+use Rattle.rebuild.proofs.RebuildCode.{laws}
 use borrow.Author.Rules.{rules}
 use Rattle.rebuild.proofs.seek_top.Goals as goal
 

@@ -1,6 +1,5 @@
-use Rattle.rebuild.proofs.RebuildCode.{Seeking, laws}
+use Rattle.rebuild.proofs.RebuildCode.{Seeking}
 use Rattle.words.specs.Edition.{wide}
-use borrow.Author.Rules.{rules}
 use Rattle.rebuild.proofs.seek_top.Given as goal
 
 abbrev pub invariant-loop-left : goal.invariant-loop-left

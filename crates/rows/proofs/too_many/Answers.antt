@@ -1,6 +1,5 @@
 use native.Mathlib.Omega.{arith}
 use Rattle.rows.proofs.RowsCode.{in_words}
-use borrow.Author.Rules.{rules}
 use Rattle.rows.proofs.too_many.Goals as goal
 
 pub overflow_add-result-2 : goal.overflow_add-result-2

@@ -1,5 +1,5 @@
 use borrow.Author.Rules.{rules}
-use Rattle.sound.proofs.SoundCode.{Starting, laws}
+use Rattle.sound.proofs.SoundCode.{laws}
 use Rattle.sound.proofs.starts_at.Goals as goal
 
 pub loop-left-init : goal.loop-left-init

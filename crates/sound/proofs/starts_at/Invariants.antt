@@ -1,5 +1,4 @@
-use borrow.Author.Rules.{rules}
-use Rattle.sound.proofs.SoundCode.{Starting, laws}
+use Rattle.sound.proofs.SoundCode.{Starting}
 use Rattle.sound.proofs.starts_at.Given as goal
 
 abbrev pub invariant-loop-left : goal.invariant-loop-left

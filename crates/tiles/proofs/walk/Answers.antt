@@ -1,5 +1,5 @@
 use borrow.Author.Rules.{rules}
-use Rattle.tiles.proofs.TilesCode.{Walks, laws}
+use Rattle.tiles.proofs.TilesCode.{laws}
 use Rattle.tiles.proofs.walk.Goals as goal
 
 pub loop-left-init : goal.loop-left-init

@@ -1,5 +1,4 @@
-use borrow.Author.Rules.{rules}
-use Rattle.tiles.proofs.TilesCode.{Walks, laws}
+use Rattle.tiles.proofs.TilesCode.{Walks}
 use Rattle.tiles.proofs.walk.Given as goal
 
 abbrev pub invariant-loop-left : goal.invariant-loop-left

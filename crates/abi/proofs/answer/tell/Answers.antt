@@ -1,5 +1,4 @@
 use Rattle.abi.proofs.AbiCode.{told_out}
-use borrow.Author.Rules.{rules}
 use Rattle.abi.proofs.answer.tell.Goals as goal
 
 pub returns : goal.returns

@@ -1,9 +1,8 @@
-use mathlib.Core.Path.{◌≡◌, refl, ◌∙◌, ap}
-use Prim.Native.Nat.{◌+◌, ◌-◌, ◌≤◌}
+use mathlib.Core.Path.{refl, ◌∙◌, ap}
+use Prim.Native.Nat.{◌+◌}
 use native.Mathlib.Omega.{arith}
 use lib.ListN.{get_or, set}
-use borrow.Author.Rules.{rules}
-use Rattle.arena.specs.Record.{offsets, copied_up}
+use Rattle.arena.specs.Record.{copied_up}
 use Rattle.arena.proofs.RecordCode.{copied_next, copied_all}
 use Rattle.arena.proofs.control.copy_links.Goals as goal
 

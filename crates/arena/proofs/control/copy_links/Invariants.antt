@@ -1,10 +1,6 @@
-use mathlib.Core.Path.{◌≡◌, refl, ◌∙◌, ap}
-use Prim.Native.Nat.{◌+◌, ◌-◌, ◌≤◌}
-use native.Mathlib.Omega.{arith}
-use lib.ListN.{get_or, set}
-use borrow.Author.Rules.{rules}
+use mathlib.Core.Path.{◌≡◌}
+use Prim.Native.Nat.{◌-◌, ◌≤◌}
 use Rattle.arena.specs.Record.{offsets, copied_up}
-use Rattle.arena.proofs.RecordCode.{copied_next, copied_all}
 use Rattle.arena.proofs.control.copy_links.Given as goal
 
 abbrev pub invariant-loop-i : goal.invariant-loop-i

@@ -1,10 +1,6 @@
 use Rattle.arena.proofs.RecordCode.{image-links}
-use mathlib.Core.Path.{sym, ◌∙◌}
-use lib.ListN.{length-map}
-use mir.Facts.{Fits-lt-pow}
 use Rattle.std.proofs.Common.{arith}
 use Rattle.chunk.specs.contracts.access.ChunkOff as off
-use borrow.Author.Rules.{rules}
 use Rattle.arena.proofs.control.image_of.Goals as goal
 
 pub returns : goal.returns

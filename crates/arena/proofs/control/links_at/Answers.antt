@@ -1,8 +1,7 @@
-use mathlib.Core.Path.{◌≡◌, refl}
-use Prim.Native.Nat.{◌-◌, ◌≤◌}
+use mathlib.Core.Path.{refl}
 use native.Mathlib.Omega.{arith}
-use lib.ListN.{length, length-set}
-use Rattle.arena.proofs.RecordCode.{Linked, linked_next, linked_all}
+use lib.ListN.{length-set}
+use Rattle.arena.proofs.RecordCode.{linked_next, linked_all}
 use Rattle.arena.proofs.control.links_at.Goals as goal
 
 pub loop-i-init : goal.loop-i-init

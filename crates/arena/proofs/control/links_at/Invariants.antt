@@ -1,8 +1,7 @@
-use mathlib.Core.Path.{◌≡◌, refl}
+use mathlib.Core.Path.{◌≡◌}
 use Prim.Native.Nat.{◌-◌, ◌≤◌}
-use native.Mathlib.Omega.{arith}
-use lib.ListN.{length, length-set}
-use Rattle.arena.proofs.RecordCode.{Linked, linked_next, linked_all}
+use lib.ListN.{length}
+use Rattle.arena.proofs.RecordCode.{Linked}
 use Rattle.arena.proofs.control.links_at.Given as goal
 
 abbrev pub invariant-loop-i : goal.invariant-loop-i

@@ -1,4 +1,3 @@
-use borrow.Author.Tests.{not-true, not-false}
 use Rattle.arena.proofs.OnImageCode.{tests, call_count, call_unsound, malloc_many, malloc-told}
 use borrow.Author.Rules.{rules}
 use Rattle.arena.proofs.on_image.malloc.Goals as goal

@@ -1,4 +1,3 @@
-use borrow.Author.Tests.{not-true, not-false}
 use Rattle.arena.proofs.OnImageCode.{tests, call_count, call_unsound, memalign_odd, memalign_many, memalign-told}
 use borrow.Author.Rules.{rules}
 use Rattle.arena.proofs.on_image.memalign.Goals as goal

@@ -1,6 +1,5 @@
-use borrow.Author.Tests.{not-false}
 use borrow.Author.Rules.{rules}
-use Rattle.binned.proofs.SmallCode.{Lists, list_turn, laws}
+use Rattle.binned.proofs.SmallCode.{list_turn, laws}
 use Rattle.binned.proofs.small.list_ok.Goals as goal
 
 pub loop-left-init : goal.loop-left-init

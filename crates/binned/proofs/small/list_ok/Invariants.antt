@@ -1,6 +1,4 @@
-use borrow.Author.Tests.{not-false}
-use borrow.Author.Rules.{rules}
-use Rattle.binned.proofs.SmallCode.{Lists, list_turn, laws}
+use Rattle.binned.proofs.SmallCode.{Lists}
 use Rattle.binned.proofs.small.list_ok.Given as goal
 
 abbrev pub invariant-loop-left : goal.invariant-loop-left

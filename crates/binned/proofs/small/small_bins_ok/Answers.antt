@@ -1,6 +1,5 @@
-use Prim.Native.Nat.{◌-◌}
 use borrow.Author.Rules.{rules}
-use Rattle.binned.proofs.SmallCode.{Smalls, laws}
+use Rattle.binned.proofs.SmallCode.{laws}
 use Rattle.binned.proofs.small.small_bins_ok.Goals as goal
 
 pub loop-i-init : goal.loop-i-init

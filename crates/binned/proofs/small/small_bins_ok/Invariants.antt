@@ -1,6 +1,5 @@
 use Prim.Native.Nat.{◌-◌}
-use borrow.Author.Rules.{rules}
-use Rattle.binned.proofs.SmallCode.{Smalls, laws}
+use Rattle.binned.proofs.SmallCode.{Smalls}
 use Rattle.binned.proofs.small.small_bins_ok.Given as goal
 
 abbrev pub invariant-loop-i : goal.invariant-loop-i

@@ -1,6 +1,5 @@
-use borrow.Author.Tests.{not-false}
 use borrow.Author.Rules.{rules}
-use Rattle.binned.proofs.RingsCode.{Rings, ring_turn, laws}
+use Rattle.binned.proofs.RingsCode.{ring_turn, laws}
 use Rattle.binned.proofs.trees.ring_ok.Goals as goal
 
 pub link-c-requires : goal.link-c-requires

@@ -1,6 +1,4 @@
-use borrow.Author.Tests.{not-false}
-use borrow.Author.Rules.{rules}
-use Rattle.binned.proofs.RingsCode.{Rings, ring_turn, laws}
+use Rattle.binned.proofs.RingsCode.{Rings}
 use Rattle.binned.proofs.trees.ring_ok.Given as goal
 
 abbrev pub invariant-loop-left : goal.invariant-loop-left

@@ -1,6 +1,5 @@
-use Prim.Native.Nat.{◌-◌}
 use borrow.Author.Rules.{rules}
-use Rattle.binned.proofs.TreesCode.{Trees, laws}
+use Rattle.binned.proofs.TreesCode.{laws}
 use Rattle.binned.proofs.trees.tree_bins_ok.Goals as goal
 
 pub loop-i-init : goal.loop-i-init

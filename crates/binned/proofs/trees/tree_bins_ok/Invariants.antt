@@ -1,6 +1,5 @@
 use Prim.Native.Nat.{◌-◌}
-use borrow.Author.Rules.{rules}
-use Rattle.binned.proofs.TreesCode.{Trees, laws}
+use Rattle.binned.proofs.TreesCode.{Trees}
 use Rattle.binned.proofs.trees.tree_bins_ok.Given as goal
 
 abbrev pub invariant-loop-i : goal.invariant-loop-i

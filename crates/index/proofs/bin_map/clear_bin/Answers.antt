@@ -1,6 +1,6 @@
 -- `index::bin_map::clear_bin` meets its contract. `1 << i % 32` is 2 ^ (i % 32), and `&` with its complement clears.
 -- Assumes nothing.
-use Rattle.std.proofs.Common.{arith, lit<, rules}
+use Rattle.std.proofs.Common.{arith, lit<}
 use Rattle.index.specs.Words.{one_shl_mod}
 use Rattle.index.specs.BinMapLaws.{and_clears}
 use Rattle.index.proofs.bin_map.clear_bin.Goals as goal

@@ -1,7 +1,7 @@
 -- `index::bin_map::filled_from` meets its contract. The mask has the bits from i % 32 on, so the lowest bit behind it is the first
 -- filled bin from there.
 -- Assumes nothing.
-use Rattle.std.proofs.Common.{arith, lit<, rules}
+use Rattle.std.proofs.Common.{arith, lit<}
 use Rattle.index.specs.Words.{one_shl_mod}
 use Rattle.index.specs.BinMapLaws.{from_word}
 use Rattle.index.proofs.bin_map.filled_from.Goals as goal

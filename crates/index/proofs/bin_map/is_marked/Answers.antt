@@ -1,6 +1,6 @@
 -- `index::bin_map::is_marked` meets its contract. `map & 2 ^ (i % 32)` is 2 ^ (i % 32) or 0 by the bit.
 -- Assumes nothing.
-use Rattle.std.proofs.Common.{◌%◌, lit<, rules}
+use Rattle.std.proofs.Common.{◌%◌, lit<}
 use Rattle.index.specs.Words.{one_shl_mod}
 use Rattle.index.specs.BinMapLaws.{and_tests}
 use Rattle.index.proofs.bin_map.is_marked.Goals as goal

@@ -1,7 +1,6 @@
 -- `index::bin_map::least_bit` meets its contract. `x & -x`, by `least_word` at 32 bits.
 -- Assumes nothing.
 use Rattle.index.specs.BinMapLaws.{least_word}
-use Rattle.std.proofs.Common.{rules}
 use Rattle.index.proofs.bin_map.least_bit.Goals as goal
 
 pub returns : goal.returns

@@ -1,7 +1,7 @@
 -- `index::bin_map::next_filled` meets its contract. The mask has the bits above i % 32, so the lowest bit behind it is the next
 -- filled bin.
 -- Assumes nothing.
-use Rattle.std.proofs.Common.{arith, lit<, rules}
+use Rattle.std.proofs.Common.{arith, lit<}
 use Rattle.index.specs.Words.{one_shl_mod}
 use Rattle.index.specs.BinMapLaws.{next_word}
 use Rattle.index.proofs.bin_map.next_filled.Goals as goal

@@ -1,7 +1,7 @@
 -- `index::bin_map::own_or_next` meets its contract. The two low bits of `map >> i % 32` are bits i % 32 and i % 32 + 1 of the map, and
 -- `!bits & 1` is the complement of the lower one.
 -- Assumes nothing.
-use Rattle.std.proofs.Common.{◌%◌, sym, ◌∙◌, arith, lit<, rules}
+use Rattle.std.proofs.Common.{◌%◌, sym, ◌∙◌, arith, lit<}
 use Rattle.index.specs.Words.{and_one}
 use Rattle.index.specs.BinMapLaws.{two_bits, not_low_bit, own_or_next_lem, own_or_none}
 use Rattle.index.proofs.bin_map.own_or_next.Goals as goal

@@ -1,6 +1,6 @@
 -- `index::sizes::align_up` meets its contract. `x & !(2 ^ k - 1)` keeps the multiples of 2 ^ k, by `round_code` at 64 bits.
 -- Assumes nothing.
-use Rattle.std.proofs.Common.{arith, pow_pos, rules}
+use Rattle.std.proofs.Common.{arith, pow_pos}
 use Rattle.index.specs.SizesLaws.{round_code}
 use Rattle.index.proofs.sizes.align_up.Goals as goal
 

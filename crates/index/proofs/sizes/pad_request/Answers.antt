@@ -1,6 +1,6 @@
 -- `index::sizes::pad_request` meets its contract. 16 is 2 ^ 4, and rounding up a sum that wrapped is `round_wrap`.
 -- Assumes nothing.
-use Rattle.std.proofs.Common.{refl, lit<, lit≤, rules}
+use Rattle.std.proofs.Common.{refl, lit<, lit≤}
 use Rattle.index.specs.SizesLaws.{round_wrap}
 use Rattle.index.proofs.sizes.pad_request.Goals as goal
 

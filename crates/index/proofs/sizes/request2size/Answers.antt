@@ -1,6 +1,6 @@
 -- `index::sizes::request2size` meets its contract. Each branch is the definition's.
 -- Assumes nothing.
-use Rattle.std.proofs.Common.{rules, le-ltb, lt-ltb}
+use Rattle.std.proofs.Common.{le-ltb, lt-ltb}
 use Rattle.index.specs.Sizes.{need}
 use Rattle.index.proofs.sizes.request2size.Goals as goal
 

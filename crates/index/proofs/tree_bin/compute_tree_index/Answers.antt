@@ -1,7 +1,7 @@
 -- `index::tree_bin::compute_tree_index` meets its contract. What is held is in the bin of the size (`tree_held`), and `tree_code`
 -- says the rest at once: the bounds that the steps ask for, and the index.
 -- Assumes nothing.
-use Rattle.std.proofs.Common.{◌≡◌, ◌≤◌, sym, ap, ◌∙◌, ⊎_elim, arith, rules}
+use Rattle.std.proofs.Common.{◌≡◌, ◌≤◌, sym, ap, ◌∙◌, arith}
 use Rattle.index.specs.TreeBin.{tree_index}
 use Rattle.index.proofs.TreeCode.{TreeCode, tree_code, tree_held, and_fits, sum_fits}
 use Rattle.index.proofs.tree_bin.compute_tree_index.Goals as goal
@@ -16,7 +16,7 @@ code c = tree_code 64 c.if-size-gt16777215.held (omega arith) (bound c)
 
 same : (c : goal.After-row_known-1) → tree_index c.if-size-gt16777215.held ≡ tree_index c.args.size
 same c = elim c.if-size-gt16777215.branch [
-    then-size-gt16777215 w ↦ ap tree_index w.held-is ∙ sym (tree_held c.args.size (omega arith))
+  | then-size-gt16777215 w ↦ ap tree_index w.held-is ∙ sym (tree_held c.args.size (omega arith))
   | else-size-gt16777215 w ↦ ap tree_index w.held-is
 ]
 

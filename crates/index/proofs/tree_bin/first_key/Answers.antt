@@ -1,6 +1,6 @@
 -- `index::tree_bin::first_key` meets its contract. The definition at depth 0.
 -- Assumes nothing.
-use Rattle.std.proofs.Common.{◌%◌, add-zero, arith, rules}
+use Rattle.std.proofs.Common.{◌%◌, add-zero, arith}
 use Rattle.index.specs.TreeBin.{key_at}
 use Rattle.index.specs.TreeBinLaws.{shift_lt}
 use Rattle.index.proofs.tree_bin.first_key.Goals as goal

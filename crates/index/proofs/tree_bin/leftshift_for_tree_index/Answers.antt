@@ -1,6 +1,6 @@
 -- `index::tree_bin::leftshift_for_tree_index` meets its contract. Each branch is the definition's.
 -- Assumes nothing.
-use Rattle.std.proofs.Common.{sym, ap, ◌∙◌, rules}
+use Rattle.std.proofs.Common.{sym, ap, ◌∙◌}
 use Rattle.index.specs.TreeBin.{left_shift}
 use Rattle.index.specs.TreeBinLaws.{shift_last, shift_other}
 use Rattle.index.proofs.tree_bin.leftshift_for_tree_index.Goals as goal

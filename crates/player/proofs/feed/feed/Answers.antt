@@ -1,6 +1,4 @@
-use Rattle.std.proofs.Common.{◌-◌, length, rules}
-use Rattle.player.specs.FeedBytes.{desk}
-use Rattle.player.proofs.FeedCode.{Feeding, feeding_start, feeding_turn, feeding_line, feeding_place, feeding_from}
+use Rattle.player.proofs.FeedCode.{feeding_start, feeding_turn, feeding_line, feeding_place, feeding_from}
 use Rattle.player.proofs.feed.feed.Goals as goal
 
 pub loop-i-init : goal.loop-i-init

@@ -1,6 +1,6 @@
-use Rattle.std.proofs.Common.{◌-◌, length, rules}
+use Rattle.std.proofs.Common.{◌-◌, length}
 use Rattle.player.specs.FeedBytes.{desk}
-use Rattle.player.proofs.FeedCode.{Feeding, feeding_start, feeding_turn, feeding_line, feeding_place, feeding_from}
+use Rattle.player.proofs.FeedCode.{Feeding}
 use Rattle.player.proofs.feed.feed.Given as goal
 
 abbrev pub invariant-loop-i : goal.invariant-loop-i

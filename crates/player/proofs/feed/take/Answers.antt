@@ -1,5 +1,4 @@
 use Rattle.player.proofs.FeedCode.{take-place, take-desk}
-use Rattle.std.proofs.Common.{rules}
 use Rattle.player.proofs.feed.take.Goals as goal
 
 pub returns : goal.returns

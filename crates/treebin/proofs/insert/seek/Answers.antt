@@ -1,7 +1,7 @@
 use mathlib.Core.Path.{refl}
 use native.Mathlib.Omega.{arith}
 use borrow.Author.Rules.{rules}
-use Rattle.treebin.proofs.InsertLaws.{Seek, laws}
+use Rattle.treebin.proofs.InsertLaws.{laws}
 use Rattle.treebin.proofs.insert.seek.Goals as goal
 
 pub loop-left-init : goal.loop-left-init

@@ -1,7 +1,4 @@
-use mathlib.Core.Path.{refl}
-use native.Mathlib.Omega.{arith}
-use borrow.Author.Rules.{rules}
-use Rattle.treebin.proofs.InsertLaws.{Seek, laws}
+use Rattle.treebin.proofs.InsertLaws.{Seek}
 use Rattle.treebin.proofs.insert.seek.Given as goal
 
 -- the way down from here is the way down from the root; the levels left fall

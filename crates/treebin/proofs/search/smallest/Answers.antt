@@ -1,8 +1,7 @@
 use mathlib.Core.Path.{refl}
 use native.Mathlib.Omega.{arith}
 use borrow.Author.Rules.{rules}
-use Rattle.treebin.specs.SearchBytes.{best}
-use Rattle.treebin.proofs.SearchLaws.{Down, laws}
+use Rattle.treebin.proofs.SearchLaws.{laws}
 use Rattle.treebin.proofs.search.smallest.Goals as goal
 
 pub loop-left-init : goal.loop-left-init

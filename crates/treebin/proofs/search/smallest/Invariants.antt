@@ -1,8 +1,5 @@
-use mathlib.Core.Path.{refl}
-use native.Mathlib.Omega.{arith}
-use borrow.Author.Rules.{rules}
 use Rattle.treebin.specs.SearchBytes.{best}
-use Rattle.treebin.proofs.SearchLaws.{Down, laws}
+use Rattle.treebin.proofs.SearchLaws.{Down}
 use Rattle.treebin.proofs.search.smallest.Given as goal
 
 -- the search from here, with what is found so far, is the whole search; the levels left fall

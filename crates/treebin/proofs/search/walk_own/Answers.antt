@@ -1,6 +1,5 @@
 use borrow.Author.Rules.{rules}
-use Rattle.treebin.specs.SearchBytes.{best}
-use Rattle.treebin.proofs.SearchLaws.{Walk, laws}
+use Rattle.treebin.proofs.SearchLaws.{laws}
 use Rattle.treebin.proofs.search.walk_own.Goals as goal
 
 pub loop-left-init : goal.loop-left-init

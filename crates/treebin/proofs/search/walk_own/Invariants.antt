@@ -1,6 +1,5 @@
-use borrow.Author.Rules.{rules}
 use Rattle.treebin.specs.SearchBytes.{best}
-use Rattle.treebin.proofs.SearchLaws.{Walk, laws}
+use Rattle.treebin.proofs.SearchLaws.{Walk}
 use Rattle.treebin.proofs.search.walk_own.Given as goal
 
 -- the walk from here, with what is found and passed by so far, is the whole walk; the levels left fall

@@ -1,7 +1,7 @@
 use mathlib.Core.Path.{refl}
 use native.Mathlib.Omega.{arith}
 use borrow.Author.Rules.{rules}
-use Rattle.treebin.proofs.UnlinkLaws.{Deep, deep_turn, deep_found, laws}
+use Rattle.treebin.proofs.UnlinkLaws.{deep_turn, deep_found, laws}
 use Rattle.treebin.proofs.unlink.deepest.Goals as goal
 
 pub loop-left-init : goal.loop-left-init

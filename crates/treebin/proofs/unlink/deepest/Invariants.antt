@@ -1,7 +1,4 @@
-use mathlib.Core.Path.{refl}
-use native.Mathlib.Omega.{arith}
-use borrow.Author.Rules.{rules}
-use Rattle.treebin.proofs.UnlinkLaws.{Deep, deep_turn, deep_found, laws}
+use Rattle.treebin.proofs.UnlinkLaws.{Deep}
 use Rattle.treebin.proofs.unlink.deepest.Given as goal
 
 -- the deepest descendant below here is the one that is looked for; the levels left fall
