@@ -57,9 +57,9 @@ mod run {
     }
 
     pub fn main() {
-        let program = env::var("NUKASOBE_REPLAY").unwrap_or("../target/bin/replay".to_string());
+        let program = env::var("NUKASOBE_REPLAY").unwrap_or("../crates/replay/out/replay".to_string());
         if !path::Path::new(&program).is_file() {
-            return println!("{program} is not there (rt check replay): nothing was compared");
+            return println!("{program} is not there (rt run in crates/replay): nothing was compared");
         }
         let mut arguments = env::args().skip(1).map(|a| a.parse::<u64>().unwrap());
         let logs = arguments.next().unwrap_or(2000);
