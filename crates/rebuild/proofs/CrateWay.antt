@@ -1,18 +1,18 @@
 -- THE REBUILT HEAP IS THE ONE THAT DOCUMENT 02 BRINGS THE CRATE TO: "on a fresh region: every chunk but the top taken in address order,
 -- then the free ones given back from the lowest up". By the rules: with every bin empty and no spare chunk a request is served from the
 -- top; and a block given back between two blocks in use goes straight to its bin. Both editions. Assumes nothing.
-use Rattle.std.specs.Prelude.{◌≡◌, refl, Bool, true, false, List, [], ◌∷◌, ◌++◌, ℕ, zero, suc, ◌+◌, ◌-◌, ◌*◌, ◌%◌, ◌≤◌, ◌<◌, leb, ltb, get_or, set, replicate}
+use Rattle.std.specs.Prelude.{◌≡◌, refl, Bool, true, false, List, [], ◌∷◌, ◌++◌, ℕ, zero, suc, ◌+◌, ◌-◌, ◌*◌, ◌%◌, ◌≤◌, ◌<◌, leb, ltb, get_or, replicate}
 use Rattle.std.proofs.Common.{sym, ◌∙◌, ap, ap₂, subst, append-nil, append_assoc, arith, lt-ltb, le-ltb}
 use Rattle.std.proofs.Math.Option.{Option, none, some}
 use Rattle.std.proofs.lemmas.Bool.{lt-leb}
-use Rattle.words.specs.Logic.{pick, pick_case, by, false-true}
+use Rattle.words.specs.Logic.{pick, pick_case, false-true}
 use Rattle.words.specs.Edition.{Edition, wide, narrow, W}
 use Rattle.index.specs.Sizes.{need_words, need, round_up}
 use Rattle.tiling.specs.Tiling.{Chunk, used, free, size, in_use, end_of, last_use, total, end_append, last_append, split_starts}
-use Rattle.tries.specs.Tree.{Tree, leaf, insert}
+use Rattle.tries.specs.Tree.{Tree, leaf}
 use Rattle.tries.specs.Search.{Cand, walk, down, start}
 use Rattle.rules.specs.BinOf.{is_small, small_bin, trie_bin, trie_bits, huge}
-use Rattle.rules.specs.Heap.{Heap, holds_some, grows_some, fresh_heap, heap_small, heap_tries, heap_chunks}
+use Rattle.rules.specs.Heap.{Heap, holds_some, grows_some, fresh_heap, heap_chunks}
 use Rattle.rules.specs.Binning.{spare_words, dv_words, bin}
 use Rattle.rules.specs.Malloc.{to_dv, to_bin, from_bin, from_top, from_spare_or_top, from_dv_or_top, first_filled, best_from, best_large, from_trie}
 use Rattle.rules.specs.Malloc.{from_fuller, fuller, own_or_next, from_own, malloc_small, malloc_find, malloc_large, malloc}
@@ -22,7 +22,7 @@ use Rattle.rules.specs.Tidy.{Tidy, tidy_head, tidy_append, tidy_left, tidy_right
 use Rattle.rules.specs.Lookup.{find_plain}
 use Rattle.decides.specs.LiveLaws.{starts_live}
 use Rattle.rebuild.specs.Rebuilding.{bare_heap, enter_all, rebuilt_heap, bin_stays}
-use Rattle.rebuild.specs.CrateWay.{gives, made_by, takes}
+use Rattle.rebuild.specs.CrateWay.{gives, made_by, takes, bin_chunks, enter_chunks}
 
 -- ---- the calls
 
@@ -111,22 +111,6 @@ module _ (e : Edition) (n : ℕ) where
   tidy_used pu pv [] d = tt
   tidy_used pu pv (c ∷ ys) d = let k = tidy_head pu c ys d in (k.0, k.1, tidy_used (in_use c) true ys k.2)
 
-  -- the bins do not look at the chunks
-  bin_chunks : (h : Heap) (cs : List Chunk) (p s : ℕ) → bin e (heap_chunks h cs) p s ≡ heap_chunks (bin e h p s) cs
-  bin_chunks h cs p s =
-      by (λ b. pick b (heap_small (heap_chunks h cs) (set h.small (small_bin e s) (p ∷ get_or h.small (small_bin e s) [])))
-      (heap_tries (heap_chunks h cs)
-      (set h.tries (trie_bin e s) (insert p s (trie_bits e (trie_bin e s)) (get_or h.tries (trie_bin e s) leaf))))
-      ≡ heap_chunks (pick b (heap_small h (set h.small (small_bin e s) (p ∷ get_or h.small (small_bin e s) [])))
-      (heap_tries h (set h.tries (trie_bin e s) (insert p s (trie_bits e (trie_bin e s)) (get_or h.tries (trie_bin e s) leaf))))) cs)
-      (is_small e s) (λ _. refl) (λ _. refl)
-
-  enter_chunks : (h : Heap) (cs : List Chunk) (p : ℕ) (ys : List Chunk)
-      → enter_all e (heap_chunks h cs) p ys ≡ heap_chunks (enter_all e h p ys) cs
-  enter_chunks h cs p [] = refl
-  enter_chunks h cs p (used s ∷ ys) = enter_chunks h cs (p + s) ys
-  enter_chunks h cs p (free s ∷ ys) = ap (λ k. enter_all e k (p + s) ys) (bin_chunks h cs p s) ∙ enter_chunks (bin e h p s) cs (p + s) ys
-
   place_plain : (e : Edition) (p : ℕ) → place_of e (block_of e p) ≡ p
   place_plain wide p = omega arith
   place_plain narrow p = omega arith
@@ -179,7 +163,7 @@ module _ (e : Edition) (n : ℕ) where
       (ap (last_use true) one ∙ u)
       ∙ ap (heap_chunks (enter_all e k (p + s) ys)) one
       ∙ ap (λ g. heap_chunks g (xs ++ (free s ∷ ys)))
-      (ap (λ g. enter_all e g (p + s) ys) (bin_chunks h x p s) ∙ enter_chunks (bin e h p s) x (p + s) ys)
+      (ap (λ g. enter_all e g (p + s) ys) (bin_chunks e n h x p s) ∙ enter_chunks e n (bin e h p s) x (p + s) ys)
 
   -- all of it
   pub as_the_crate : (cs : List Chunk) (ts : ℕ) → Tidy true cs → last_use true cs ≡ true → 0 < ts → total cs + ts + 10 ≡ n
@@ -188,4 +172,4 @@ module _ (e : Edition) (n : ℕ) where
       ap (λ h. made_by e n h (gives e 0 cs))
       (take_all [] cs (n - 10) true d (omega arith) (omega arith)
       ∙ ap (bare_heap (all_used cs)) (let z : n - 10 - total cs ≡ ts = omega arith in z))
-      ∙ give_all cs [] 0 (bare_heap (all_used cs) ts) refl refl d u ∙ sym (enter_chunks (bare_heap (all_used cs) ts) cs 0 cs)
+      ∙ give_all cs [] 0 (bare_heap (all_used cs) ts) refl refl d u ∙ sym (enter_chunks e n (bare_heap (all_used cs) ts) cs 0 cs)

@@ -35,24 +35,9 @@ use Rattle.rebuild.specs.Rebuilding.{bare_heap, rebuilt_heap, free_places, count
 use Rattle.rebuild.proofs.SeekLaws.{seek_yes, seek_there}
 use Rattle.rebuild.specs.FillSteps.{Filling, Filled}
 use Rattle.rebuild.proofs.FillSteps.{fills}
-use Rattle.rebuild.specs.RebuildLaws.{BinWord, Rebuilds, Tiling}
+use Rattle.rebuild.specs.RebuildLaws.{BinWord, Rebuilds, Tiling, bare_control}
 
 -- ---- the bare record
-
--- its numbers
-bare_control : Edition → ℕ → ℕ → ℕ → Control
-bare_control e top ts len =
-    record {
-      small_map = 0;
-      tree_map = 0;
-      heads = replicate 32 (no_link e);
-      roots = replicate 32 (no_link e);
-      dv = no_link e;
-      dv_size = 0;
-      top = top;
-      top_size = ts;
-      length = len;
-    }
 
 decode-empty : (e : Edition) (top ts len : ℕ) → decode (empty_image e top ts len) ≡ bare_control e top ts len
 unfolding decode empty_image bare_control

@@ -2,19 +2,37 @@
 -- document 01's "Sound"; what it leaves is then held, with those chunks and no spare chunk, and passes the check; it wrote links of free
 -- chunks only, so every owner's words are as they were. Refused, it hands back the empty record and the words as given. Both editions,
 -- every arena. Assumes nothing.
-use Rattle.std.specs.Prelude.{◌≡◌, true, ℕ, ◌+◌, ◌≤◌, length}
+use Rattle.std.specs.Prelude.{◌≡◌, true, ℕ, ◌+◌, ◌≤◌, length, replicate}
 use mathlib.Core.List.{List, []}
 use Rattle.words.specs.Logic.{pick}
-use Rattle.words.specs.Edition.{Edition}
+use Rattle.words.specs.Edition.{Edition, no_link}
 use Rattle.tiling.specs.Tiling.{Chunk, used, free, Heads, Starts}
 use Rattle.tries.specs.Tree.{count}
 use Rattle.rules.specs.BinOf.{is_small}
+use Rattle.holds.specs.Holds.{Control}
 use Rattle.holds.specs.Governed.{LinkOf}
 use Rattle.chunk.specs.Held.{Held}
 use Rattle.chunk.specs.ChunkReach.{Same}
 use Rattle.sound.specs.SoundBytes.{sound_b}
 use Rattle.rebuild.specs.RebuildBytes.{Rebuilt}
 use Rattle.rebuild.specs.Rebuilding.{bare_heap, rebuilt_heap, Stays}
+
+-- ---- the bare record
+
+-- its numbers
+unfoldable pub bare_control : Edition → ℕ → ℕ → ℕ → Control
+bare_control e top ts len =
+    record {
+      small_map = 0;
+      tree_map = 0;
+      heads = replicate 32 (no_link e);
+      roots = replicate 32 (no_link e);
+      dv = no_link e;
+      dv_size = 0;
+      top = top;
+      top_size = ts;
+      length = len;
+    }
 
 -- "the first two points of Sound": the words tell chunks and a top
 abbrev pub Tiling : Edition → List ℕ → Type 0
