@@ -20,7 +20,7 @@ use Rattle.chunk.specs.Bytes.{Store, store}
 use Rattle.marks.specs.Marks.{has_mark}
 use Rattle.sound.specs.SoundBytes.{sound_b, live_b}
 use Rattle.decides.specs.SoundLaws.{sound_decides}
-use Rattle.calls.specs.CallBytes.{Told, refusal, core_call}
+use Rattle.calls.specs.CallBytes.{Told, core_call}
 use Rattle.calls.proofs.CallObeys.{call_obeys}
 use Rattle.live.specs.LiveBytes.{live_set}
 use Rattle.live.proofs.LiveSet.{made_lives, says_live, call_lives}

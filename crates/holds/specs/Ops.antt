@@ -1,6 +1,6 @@
 -- The elementary steps, twice: on the record and the words (L1, every word settled) and on the abstract heap (L2). That the first follow the
 -- second is shown in `BinSmall`, `BinLarge`, `Retile`. Definitions only; they assume nothing.
-use Rattle.std.specs.Prelude.{List, ℕ, suc, eqb, length, get_or, set}
+use Rattle.std.specs.Prelude.{List, ℕ, suc, eqb, get_or, set}
 use Rattle.words.specs.Edition.{Edition, no_link, enc}
 use Rattle.words.specs.Logic.{pick}
 use Rattle.words.specs.Fields.{fld, write_w}

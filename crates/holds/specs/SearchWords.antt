@@ -9,8 +9,7 @@ use Rattle.words.specs.Edition.{Edition, W, no_link, root_mark}
 use Rattle.words.specs.Fields.{fld}
 use Rattle.words.specs.Logic.{pick, le_or_lt}
 use Rattle.index.specs.BinMap.{first_from}
-use Rattle.index.specs.MapOfBins as M
-use Rattle.tries.specs.Tree.{leaf, count}
+use Rattle.tries.specs.Tree.{leaf}
 use Rattle.tries.specs.Search.{Cand, walk, down, start}
 use Rattle.tries.specs.SearchMem.{walk_m, down_m}
 use Rattle.tries.proofs.SearchMem.{walk_tree, down_tree, shape_depth}

@@ -10,7 +10,6 @@ use Prim.Native.Nat.{ℕ, ◌+◌, ◌-◌, ◌*◌, ◌%◌, ◌≤◌, ◌<◌
 use borrow.Author.Tests.{lt-leb, lt-ltb, le-ltb}
 use Rattle.words.specs.Edition.{Edition, W, enc}
 use Rattle.words.specs.Places.{remove}
-use Rattle.index.specs.BinMap as M
 use Rattle.tiling.specs.Tiling.{used, free, Starts, starts_in}
 use Rattle.tries.specs.Tree.{leaf, unlink}
 use Rattle.tries.specs.Search.{Cand}
@@ -23,7 +22,6 @@ use Rattle.holds.specs.Holds.{head_link}
 use Rattle.holds.specs.Ops.{state}
 use Rattle.rules.specs.Leaves.{unbin_leaves}
 use Rattle.holds.specs.Where.{in_trie}
-use Rattle.holds.specs.Newest as newest
 use Rattle.holds.specs.Newest.{first_starts}
 use Rattle.holds.specs.BestFit.{Fits}
 use Rattle.chunk.specs.Bytes.{less, small, link_of, take_w}

@@ -3,7 +3,6 @@
 -- links of the heap after. Which way it goes is the rule's (`MallocWays`). Assumes nothing.
 use Rattle.std.proofs.Math.Option.{Option, none, some}
 use Rattle.rules.specs.Heap.{Heap}
-use Rattle.rules.specs.Malloc as rule
 use Rattle.rules.specs.Malloc.{Grant}
 
 -- the heap that an answer leaves: a refusal leaves it as it was

@@ -28,7 +28,7 @@ use Rattle.holds.specs.Ops.{state}
 use Rattle.holds.specs.FirstBin.{first_is, first_agrees}
 use Rattle.holds.specs.Newest as newest
 use Rattle.holds.specs.BestFit.{Fits, best_large_lem, small_find}
-use Rattle.chunk.specs.Bytes.{less, small, map_of}
+use Rattle.chunk.specs.Bytes.{small, map_of}
 use Rattle.chunk.specs.Image.{decode, get_map}
 use Rattle.chunk.specs.Plain.{small_rest}
 use Rattle.chunk.specs.Held.{Held, leb_bytes, ltb_bytes, dv_size_lem}

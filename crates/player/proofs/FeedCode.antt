@@ -1,7 +1,7 @@
 -- The run over records and over a piece: one law for each return and for a turn of the loop. Assumes nothing.
 use Rattle.std.proofs.Common.{◌≡◌, ℕ, ◌+◌, ◌<◌, ◌≤◌, List, [], ◌∷◌, length, get_or, drop, sym, refl, ap, ◌∙◌, add-one, arith, drop_of_length-le, drop-cons}
 use Rattle.box_log.specs.Answers.{line_put, line_end}
-use Rattle.box_log.specs.Cutting.{line_after, step_at, hand_out, out_of, line_of, place_of, at}
+use Rattle.box_log.specs.Cutting.{line_after, step_at, hand_out, out_of, line_of, place_of}
 use Rattle.box_log.specs.declared.entry.Entry.{Entry}
 use Rattle.box_log.specs.declared.cut.Place.{Place}
 use Rattle.box_log.specs.declared.cut.Step.{Step}

@@ -20,7 +20,7 @@ use Rattle.player.specs.PlayBytes.{Scene, play_b}
 use Rattle.player.specs.PlayObeys.{Plays}
 use Rattle.player.proofs.PlayObeys.{plays}
 use Rattle.player.specs.LineRoom.{play_words, line_short, put_long, put_far, put_text}
-use Rattle.player.specs.FeedBytes.{run, fresh, Desk, desk, next, tell_b, handed_out, play_all}
+use Rattle.player.specs.FeedBytes.{fresh, Desk, desk, next, tell_b, handed_out, play_all}
 use Rattle.player.specs.Pieces.{On, Short, Wrote, cleared, output, shown, work_after, written}
 
 -- ---- what is written

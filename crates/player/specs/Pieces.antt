@@ -9,7 +9,7 @@ use Rattle.box_log.specs.declared.cut.Place.{Place}
 use Rattle.player.specs.Replayed as r
 use Rattle.player.specs.Replayed.{Work}
 use Rattle.player.specs.PlayObeys.{Stands}
-use Rattle.player.specs.FeedBytes.{run, fresh, emptied, Desk, desk, handed_out, play_all}
+use Rattle.player.specs.FeedBytes.{fresh, emptied, Desk, desk, handed_out, play_all}
 
 -- the lines that stand in the buffer
 abbrev pub shown : Desk → List ℕ

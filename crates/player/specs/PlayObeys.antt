@@ -3,10 +3,7 @@
 use Rattle.std.specs.Prelude.{◌≡◌, ℕ, ◌≤◌, List, [], length, take}
 use Rattle.words.specs.Edition.{wide}
 use Rattle.rules.specs.Heap.{Heap}
-use Rattle.rules.specs.Calls as rules
 use Rattle.chunk.specs.Held.{Held}
-use Rattle.calls.specs.CallBytes.{refusal}
-use Rattle.calls.specs.Record.{image}
 use Rattle.player.specs.Replayed.{Work, idle, busy, Line}
 use Rattle.player.specs.PlayBytes.{Scene}
 

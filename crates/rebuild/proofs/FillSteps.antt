@@ -6,7 +6,7 @@ use Rattle.std.proofs.Common.{sym, ◌∙◌, ap, subst, inl, inr, ⊎_elim, ari
 use Rattle.words.specs.Logic.{pick, by, same?}
 use Rattle.words.specs.Edition.{Edition, W, enc}
 use Rattle.words.specs.Fields.{count_l, ind_self}
-use Rattle.tiling.specs.Tiling.{Chunk, used, free, size, bit, bit_below, end_of, Starts, end_ge, starts_at_lem}
+use Rattle.tiling.specs.Tiling.{Chunk, used, free, bit, bit_below, end_of, Starts, end_ge, starts_at_lem}
 use Rattle.tries.specs.Tree.{leaf, count, insert, count-insert}
 use Rattle.rules.specs.BinOf.{is_small, small_bin, trie_bin, trie_bits}
 use Rattle.rules.specs.Heap.{Heap, heap_small, heap_tries}

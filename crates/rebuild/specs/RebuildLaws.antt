@@ -7,7 +7,6 @@ use mathlib.Core.List.{List, []}
 use Rattle.words.specs.Logic.{pick}
 use Rattle.words.specs.Edition.{Edition, no_link}
 use Rattle.tiling.specs.Tiling.{Chunk, used, free, Heads, Starts}
-use Rattle.tries.specs.Tree.{count}
 use Rattle.rules.specs.BinOf.{is_small}
 use Rattle.holds.specs.Holds.{Control}
 use Rattle.holds.specs.Governed.{LinkOf}

@@ -5,7 +5,6 @@ use Rattle.std.specs.Prelude.{◌≡◌, ℕ, ◌+◌, ◌*◌, ◌≤◌, ◌<�
 use Rattle.std.proofs.Math.Option.{Option, none, some}
 use Rattle.rules.specs.Heap.{Heap}
 use Rattle.rules.specs.Malloc.{Grant}
-use Rattle.rules.specs.Memalign.{aligned}
 use Rattle.rules.specs.Blocks.{Granted}
 
 -- of p, for the alignment al: how long it is, and where it leads

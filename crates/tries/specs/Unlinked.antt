@@ -8,7 +8,7 @@ use Rattle.words.specs.Edition.{Edition, no_link, root_mark, enc}
 use Rattle.tries.specs.Tree.{Tree, count, Distinct, unlink}
 use Rattle.tries.specs.TreeAt.{link, TreeAt, Agree, but_lt}
 use Rattle.tries.specs.Unlink.{Child, field_of}
-use Rattle.tries.specs.UnlinkWords.{deep_m, clear, round1, heir, round2, new_root, depth, cleared, unlink_m}
+use Rattle.tries.specs.UnlinkWords.{deep_m, clear, round1, heir, round2, new_root, depth, unlink_m}
 use Rattle.tries.specs.UnlinkMem.{Step, unlink_mem, unlink_w, round2_same}
 
 -- the two rounds as one list of writes

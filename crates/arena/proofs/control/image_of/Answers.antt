@@ -1,6 +1,5 @@
 use Rattle.arena.proofs.RecordCode.{image-links}
 use Rattle.std.proofs.Common.{arith}
-use Rattle.chunk.specs.contracts.access.ChunkOff as off
 use Rattle.arena.proofs.control.image_of.Goals as goal
 
 pub returns : goal.returns
