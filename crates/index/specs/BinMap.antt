@@ -1,7 +1,7 @@
 -- The maps of filled bins: a number of w bits whose bit i is 1 exactly when bin i holds something. What it is to set and to clear a bit, the bits
 -- left of one, the lowest one, the first filled bin from an index on, and the bin of a small need. Each is plain arithmetic on numbers, for
 -- every width w (the maps have 32). Definitions only; their laws are in `BinMapLaws`. Assumes nothing.
-use Rattle.std.specs.Prelude.{◌≡◌, ℕ, ◌+◌, ◌-◌, ◌*◌, ◌/◌, ◌%◌, ◌^◌, ◌<◌, ◌≤◌, Bool, true, false, ◌==◌}
+use Rattle.std.specs.Prelude.{◌≡◌, ℕ, ◌+◌, ◌-◌, ◌*◌, ◌/◌, ◌%◌, ◌^◌, ◌<◌, ◌≤◌, Bool, true, false, ltb, ◌==◌, Option, Some, None}
 use Rattle.std.specs.Int.Count.{count_trailing_zeros}
 use Rattle.words.specs.Logic.{pick}
 use Rattle.index.specs.Bit.{bit, tell}
@@ -47,3 +47,7 @@ first_from w m i = i + count_trailing_zeros (w - i) (m / 2 ^ i)
 -- the bin for a need of bin i, its own or the next one up: i, or i + 1 where only that is filled, or w where neither is
 unfoldable pub own_or_next : ℕ → ℕ → ℕ → ℕ
 own_or_next w m i = pick (bit i m == 1) i (pick (bit (i + 1) m == 1) (i + 1) w)
+
+-- a place of a map of w bits; w, the answer where no bit is set, is none
+abbrev pub in_map : ℕ → ℕ → Option ℕ
+in_map w i = pick (ltb i w) (Some i) None

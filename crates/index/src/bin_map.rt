@@ -1,7 +1,7 @@
 // The maps of filled bins: a u32 whose bit i is set exactly when bin i holds something.
-ghost use Rattle.std.specs.Prelude.{◌≡◌, ◌+◌, ◌%◌, ◌==◌};
+ghost use Rattle.std.specs.Prelude.{◌≡◌, ◌+◌, ◌%◌, ◌<◌, ◌≤◌, ◌==◌};
 ghost use Rattle.index.specs.Bit.{bit};
-ghost use Rattle.index.specs.BinMap.{mark, clear, left_bits, least_bit, first_from, own_or_next};
+ghost use Rattle.index.specs.BinMap.{mark, clear, left_bits, least_bit, first_from, own_or_next, in_map};
 
 // All bits left of x's lowest set bit: a wrapping add of one to the inverted shifted map bit.
 pub fn left_bits(x: u32) -> u32
@@ -39,38 +39,59 @@ pub fn clear_bin(map: u32, i: u32) -> u32
     map & !(1 << (i % 32))
 }
 
-// The next filled bin above bin i, 32 where there is none.
-pub fn next_filled(map: u32, i: u32) -> u32
-    ensures { result ≡ first_from 32 map (i % 32 + 1) }
+// The word with bit i set, and with it clear; i is taken modulo N, 32 in the record's maps and 64 in the sets of the check.
+pub fn with_bit<const N: u64>(word: u64, i: u64) -> u64
+    requires { (0 < N) × (N ≤ 64) }
+    ensures { result ≡ mark (i % N) word }
+{
+    word | (1 << (i % N))
+}
+
+pub fn without_bit<const N: u64>(word: u64, i: u64) -> u64
+    requires { (0 < N) × (N ≤ 64) }
+    ensures { result ≡ clear (i % N) word }
+{
+    word & !(1 << (i % N))
+}
+
+// A place of a map, if it is one.
+fn in_map(i: u32) -> Option<u32>
+    ensures { result ≡ in_map 32 i }
+{
+    if i < 32 { Some(i) } else { None }
+}
+
+// The next filled bin above bin i.
+pub fn next_filled(map: u32, i: u32) -> Option<u32>
+    ensures { result ≡ in_map 32 (first_from 32 map (i % 32 + 1)) }
 {
     let bit = 1 << (i % 32);
-    u32::trailing_zeros(left_bits(bit) & map)
+    in_map(u32::trailing_zeros(left_bits(bit) & map))
 }
 
-// The first filled bin from bin i on, 32 where there is none.
-pub fn filled_from(map: u32, i: u32) -> u32
-    ensures { result ≡ first_from 32 map (i % 32) }
+// The first filled bin from bin i on.
+pub fn filled_from(map: u32, i: u32) -> Option<u32>
+    ensures { result ≡ in_map 32 (first_from 32 map (i % 32)) }
 {
     let bit = 1 << (i % 32);
-    u32::trailing_zeros((left_bits(bit) | bit) & map)
+    in_map(u32::trailing_zeros((left_bits(bit) | bit) & map))
 }
 
-// The first filled bin, 32 for an empty map.
-pub fn lowest_filled(map: u32) -> u32
-    ensures { result ≡ first_from 32 map 0 }
+// The first filled bin.
+pub fn lowest_filled(map: u32) -> Option<u32>
+    ensures { result ≡ in_map 32 (first_from 32 map 0) }
 {
-    u32::trailing_zeros(map)
+    in_map(u32::trailing_zeros(map))
 }
 
-// The bin that serves a small need of bin i: its own, or the next one up where only that is
-// filled, or 32 where neither is.
-pub fn own_or_next(map: u32, i: u32) -> u32
-    ensures { result ≡ own_or_next 32 map (i % 32) }
+// The bin that serves a small need of bin i: its own, or the next one up where only that is filled.
+pub fn own_or_next(map: u32, i: u32) -> Option<u32>
+    ensures { result ≡ in_map 32 (own_or_next 32 map (i % 32)) }
 {
     let bits = map >> (i % 32);
     if bits & 3 != 0 {
-        i % 32 + (!bits & 1)
+        in_map(i % 32 + (!bits & 1))
     } else {
-        32
+        None
     }
 }
