@@ -1,12 +1,8 @@
 -- One law for each contract that is not found by itself: what the callees have told, put together as the definition says it.
 use Rattle.std.proofs.Common.{◌≡◌, ℕ, zero, suc, ◌+◌, ◌-◌, ◌*◌, ◌/◌, ◌%◌, ◌^◌, ◌<◌, ◌≤◌, eqb, List, [], ◌∷◌, length, get_or, set, sym, refl, ap, ◌∙◌, arith, eq-eqb, ne_eqb}
 use lib.Seq.{set_out}
-use lib.Bits.{bit_or, bit_and}
 use Rattle.words.specs.Edition.{wide}
-use Rattle.index.specs.Words.{one_shl}
-use Rattle.index.specs.BinMapLaws.{or_marks, and_clears}
-use Rattle.index.specs.BinMap.{mark, clear}
-use Rattle.chunk.specs.Bytes.{wrap, word, put, used_w, top_w, free_w, give_w, pinuse_w, unpin_w, take_w, inuse_w, cinuse_b, pinuse_b, Kind, small, tree, map_at, mark_r, clear_r, set_link, enter_r, relink_r}
+use Rattle.chunk.specs.Bytes.{wrap, word, put, used_w, top_w, free_w, give_w, pinuse_w, unpin_w, take_w, inuse_w, cinuse_b, pinuse_b, Kind, small, tree, link_at, mark_r, clear_r, set_link, enter_r, relink_r}
 
 pub get_past : (w : List ℕ) (i : ℕ) → length w ≤ i → 0 ≡ get_or w i 0
 get_past [] i l = refl
@@ -42,33 +38,10 @@ module _ (w : List ℕ) (c : ℕ) {w₁ : List ℕ} {h : ℕ} where
   pub unpin_w_lem : h ≡ word wide w c 1 → w₁ ≡ put wide w c 1 (h / 2 * 2) → w₁ ≡ unpin_w wide w c
   unpin_w_lem e₁ e₂ = cc
 
--- the maps
-pub with_bit : (m i : ℕ) → bit_or m ((1 * 2 ^ (i % 32)) % 2 ^ 64) ≡ mark (i % 32) m
-with_bit m i = ap (bit_or m) (one_shl 64 (i % 32) (omega arith)) ∙ or_marks (i % 32) m
-
-pub without-bit : (m i : ℕ) → m < 2 ^ 64 → bit_and m (2 ^ 64 - 1 - (1 * 2 ^ (i % 32)) % 2 ^ 64) ≡ clear (i % 32) m
-without-bit m i l = ap (λ x. bit_and m (2 ^ 64 - 1 - x)) (one_shl 64 (i % 32) (omega arith)) ∙ and_clears 64 (i % 32) m (omega arith) l
-
-module _ (k : Kind) (r : List ℕ) (i : ℕ) {x : ℕ} where
-  mark_r_lem : x ≡ mark (i % 32) (get_or r (map_at k) 0) → set r (map_at k) x ≡ mark_r k r i
-  mark_r_lem q = ap (set r (map_at k)) q
-
-  clear_r_lem : x ≡ clear (i % 32) (get_or r (map_at k) 0) → set r (map_at k) x ≡ clear_r k r i
-  clear_r_lem q = ap (set r (map_at k)) q
-
--- at each kind, where the place of the map computes
-module _ (r : List ℕ) (i : ℕ) {x : ℕ} where
-  pub mark_small : x ≡ mark (i % 32) (get_or r 0 0) → set r 0 x ≡ mark_r small r i
-  mark_small q = mark_r_lem small r i q
-
-  pub mark_tree : x ≡ mark (i % 32) (get_or r 1 0) → set r 1 x ≡ mark_r tree r i
-  mark_tree q = mark_r_lem tree r i q
-
-  pub clear_small : x ≡ clear (i % 32) (get_or r 0 0) → set r 0 x ≡ clear_r small r i
-  clear_small q = clear_r_lem small r i q
-
-  pub clear_tree : x ≡ clear (i % 32) (get_or r 1 0) → set r 1 x ≡ clear_r tree r i
-  clear_tree q = clear_r_lem tree r i q
+-- a kind's links stand in the image
+pub link_below : (k : Kind) (i : ℕ) → i < 32 → link_at k i < 72
+link_below small i l = omega arith
+link_below tree i l = omega arith
 
 -- a bin's first member
 module _ (k : Kind) (r : List ℕ) (i v : ℕ) {r₁ r₂ : List ℕ} where
@@ -89,25 +62,4 @@ module _ (w : List ℕ) (c : ℕ) {h : ℕ} where
   pub pinuse_b_lem : h ≡ word wide w c 1 → eqb (h % 2) 1 ≡ pinuse_b wide w c
   pinuse_b_lem q = ap (λ x. eqb (x % 2) 1) q
 
--- the same at each kind
-module _ (r : List ℕ) (i v : ℕ) {r₁ r₂ : List ℕ} where
-  pub enter_small : r₁ ≡ mark_r small r i → r₂ ≡ set_link small r₁ i v → r₂ ≡ enter_r small r i v
-  enter_small = enter_r_lem small r i v
-
-  pub enter_tree : r₁ ≡ mark_r tree r i → r₂ ≡ set_link tree r₁ i v → r₂ ≡ enter_r tree r i v
-  enter_tree = enter_r_lem tree r i v
-
-  pub relink_small : v ≡ 2 ^ 64 - 1 → r₁ ≡ clear_r small r i → r₂ ≡ set_link small r₁ i v → r₂ ≡ relink_r wide small r i v
-  relink_small = relink_none small r i v
-
-  pub relink_tree : v ≡ 2 ^ 64 - 1 → r₁ ≡ clear_r tree r i → r₂ ≡ set_link tree r₁ i v → r₂ ≡ relink_r wide tree r i v
-  relink_tree = relink_none tree r i v
-
-module _ (r : List ℕ) (i v : ℕ) {r₁ : List ℕ} where
-  pub relink_small_some : (v ≡ 2 ^ 64 - 1 → ⊥) → r₁ ≡ set_link small r i v → r₁ ≡ relink_r wide small r i v
-  relink_small_some = relink_some small r i v
-
-  pub relink_tree_some : (v ≡ 2 ^ 64 - 1 → ⊥) → r₁ ≡ set_link tree r i v → r₁ ≡ relink_r wide tree r i v
-  relink_tree_some = relink_some tree r i v
-
-pub ruleset laws = (get_past, put_past, used_w_lem, top_w_lem, free-w, give_w_lem, take-w, inuse_w_lem, pinuse_w_lem, unpin_w_lem, with_bit, without-bit, mark_small, mark_tree, clear_small, clear_tree, cinuse_b_lem, pinuse_b_lem, enter_small, enter_tree, relink_small, relink_tree, relink_small_some, relink_tree_some)
+pub ruleset laws = (get_past, put_past, used_w_lem, top_w_lem, free-w, give_w_lem, take-w, inuse_w_lem, pinuse_w_lem, unpin_w_lem, cinuse_b_lem, pinuse_b_lem, enter_r_lem, relink_none, relink_some)

@@ -4,10 +4,10 @@ ghost use Rattle.words.specs.Edition.{wide};
 ghost use Rattle.chunk.specs.Bytes.{wrap, less, word, put};
 
 // Where a chunk starts, and where its owner's words start: two kinds, 16 apart.
-#[derive(Clone, Copy)]
+#[derive(Clone, Copy, PartialEq, Eq)]
 pub struct ChunkOff(pub u64);
 
-#[derive(Clone, Copy)]
+#[derive(Clone, Copy, PartialEq, Eq)]
 pub struct BlockOff(pub u64);
 
 // A link to nothing, and a root's parent word.

@@ -1,11 +1,11 @@
 // The record as 72 words: smallmap, treemap, dv, dvsize, top, topsize, length, a word that is 0, 32 small-bin heads, 32 tree roots.
 // What stands where is said here and nowhere else.
-ghost use Rattle.std.specs.Prelude.{◌≡◌, ◌%◌};
-ghost use Rattle.index.specs.BinMap.{mark, clear};
+ghost use Rattle.std.specs.Prelude.{◌≡◌, ℕ, ◌+◌, ◌%◌, ◌<◌, refl};
 ghost use Rattle.words.specs.Edition.{wide, no_link};
-ghost use Rattle.chunk.specs.Bytes.{set_dv, set_top, small, tree, map_of, link_of, set_link, mark_r, clear_r, enter_r, relink_r};
+ghost use Rattle.chunk.specs.Bytes.{set_dv, set_top, Kind, small, tree, map_at, link_at, map_of, link_of, set_link, mark_r, clear_r, enter_r, relink_r};
 
 use crate::access::{ChunkOff, NONE};
+use index::bin_map::{with_bit, without_bit};
 
 pub const SMALLMAP: usize = 0;
 
@@ -21,88 +21,115 @@ pub const TOPSIZE: usize = 5;
 
 pub const LENGTH: usize = 6;
 
-const SMALLBINS: u32 = 8;
+// A kind of bins: the word of the record that is its map, and the word that is the link of its bin 0.
+pub trait Bins {
+    const MAP: usize;
 
-const TREEBINS: u32 = 40;
+    const LINKS: u32;
 
-pub fn smallmap(r: &[u64; 72]) -> u32
-    ensures { result ≡ map_of small r.now }
-{
-    (r[SMALLMAP] % 4294967296) as u32
+    ghost MAP: { ℕ };
+
+    ghost LINKS: { ℕ };
+
+    ghost kind: { Kind };
+
+    ghost map_stands: { MAP ≡ map_at kind };
+
+    ghost links_stand: { (i : ℕ) → LINKS + i ≡ link_at kind i };
 }
 
-pub fn treemap(r: &[u64; 72]) -> u32
-    ensures { result ≡ map_of tree r.now }
-{
-    (r[TREEMAP] % 4294967296) as u32
+// Chunks of 32 to 248 bytes, a list for each size.
+pub struct Small;
+
+// Larger chunks, a tree for each half of a power of two.
+pub struct Tree;
+
+impl Bins for Small {
+    const MAP: usize = SMALLMAP;
+
+    const LINKS: u32 = 8;
+
+    ghost MAP = { 0 };
+
+    ghost LINKS = { 8 };
+
+    ghost kind = { small };
+
+    ghost map_stands = { refl };
+
+    ghost links_stand = { λ i. refl };
 }
 
-fn with_bit(m: u64, i: u32) -> u64
-    ensures { result ≡ mark (i % 32) m }
-{
-    m | (1 << (i % 32))
+impl Bins for Tree {
+    const MAP: usize = TREEMAP;
+
+    const LINKS: u32 = 40;
+
+    ghost MAP = { 1 };
+
+    ghost LINKS = { 40 };
+
+    ghost kind = { tree };
+
+    ghost map_stands = { refl };
+
+    ghost links_stand = { λ i. refl };
 }
 
-fn without_bit(m: u64, i: u32) -> u64
-    ensures { result ≡ clear (i % 32) m }
+pub fn map<B: Bins>(r: &[u64; 72]) -> u32
+    ensures { result ≡ map_of B.kind r.now }
 {
-    m & !(1 << (i % 32))
+    (r[B::MAP] % 4294967296) as u32
 }
 
-pub fn mark_smallmap(r: &mut [u64; 72], i: u32)
-    ensures { r.new ≡ mark_r small r.old i }
+fn mark<B: Bins>(r: &mut [u64; 72], i: u32)
+    ensures { r.new ≡ mark_r B.kind r.old i }
 {
-    let m = r[SMALLMAP];
-    r[SMALLMAP] = with_bit(m, i);
+    r[B::MAP] = with_bit::<32>(r[B::MAP], i as u64);
 }
 
-pub fn clear_smallmap(r: &mut [u64; 72], i: u32)
-    ensures { r.new ≡ clear_r small r.old i }
+fn clear<B: Bins>(r: &mut [u64; 72], i: u32)
+    ensures { r.new ≡ clear_r B.kind r.old i }
 {
-    let m = r[SMALLMAP];
-    r[SMALLMAP] = without_bit(m, i);
+    r[B::MAP] = without_bit::<32>(r[B::MAP], i as u64);
 }
 
-pub fn mark_treemap(r: &mut [u64; 72], i: u32)
-    ensures { r.new ≡ mark_r tree r.old i }
+// Where bin i's link stands.
+fn link_word<B: Bins>(i: u32) -> usize
+    ensures place { result ≡ link_at B.kind (i % 32) }
+    ensures in_the_image { result < 72 }
 {
-    let m = r[TREEMAP];
-    r[TREEMAP] = with_bit(m, i);
+    (B::LINKS + i % 32) as usize
 }
 
-pub fn clear_treemap(r: &mut [u64; 72], i: u32)
-    ensures { r.new ≡ clear_r tree r.old i }
+pub fn bin_at<B: Bins>(r: &[u64; 72], i: u32) -> ChunkOff
+    ensures { result.0 ≡ link_of B.kind r.now i }
 {
-    let m = r[TREEMAP];
-    r[TREEMAP] = without_bit(m, i);
+    ChunkOff(r[link_word::<B>(i)])
 }
 
-pub fn smallbin_at(r: &[u64; 72], i: u32) -> ChunkOff
-    ensures { result.0 ≡ link_of small r.now i }
+pub fn set_bin<B: Bins>(r: &mut [u64; 72], i: u32, c: ChunkOff)
+    ensures { r.new ≡ set_link B.kind r.old i c.0 }
 {
-    let k = (SMALLBINS + i % 32) as usize;
-    ChunkOff(r[k])
+    r[link_word::<B>(i)] = c.0;
 }
 
-pub fn set_smallbin(r: &mut [u64; 72], i: u32, c: ChunkOff)
-    ensures { r.new ≡ set_link small r.old i c.0 }
+// A bin gets a first member.
+pub fn enter<B: Bins>(r: &mut [u64; 72], i: u32, c: ChunkOff)
+    ensures { r.new ≡ enter_r B.kind r.old i c.0 }
 {
-    let k = (SMALLBINS + i % 32) as usize;
-    r[k] = c.0;
+    mark::<B>(r, i);
+    set_bin::<B>(r, i, c);
 }
 
-pub fn treebin_at(r: &[u64; 72], i: u32) -> ChunkOff
-    ensures { result.0 ≡ link_of tree r.now i }
+// A bin gets another first member, or none: then its bit is cleared.
+pub fn relink<B: Bins>(r: &mut [u64; 72], i: u32, c: ChunkOff)
+    ensures { r.new ≡ relink_r wide B.kind r.old i c.0 }
 {
-    let k = (TREEBINS + i % 32) as usize;
-    ChunkOff(r[k])
-}
-
-pub fn set_treebin(r: &mut [u64; 72], i: u32, c: ChunkOff)
-    ensures { r.new ≡ set_link tree r.old i c.0 }
-{
-    let k = (TREEBINS + i % 32) as usize;
-    r[k] = c.0;
+    if c.0 == NONE {
+        clear::<B>(r, i);
+    }
+    set_bin::<B>(r, i, c);
 }
 
 pub fn set_dv(r: &mut [u64; 72], c: ChunkOff, n: u64)
@@ -124,42 +151,4 @@ pub fn set_top(r: &mut [u64; 72], c: ChunkOff, n: u64)
 {
     r[TOP] = c.0;
     r[TOPSIZE] = n;
-}
-
-// A bin gets a first member.
-pub fn enter_smallbin(r: &mut [u64; 72], i: u32, c: ChunkOff)
-    ensures { r.new ≡ enter_r small r.old i c.0 }
-{
-    mark_smallmap(r, i);
-    set_smallbin(r, i, c);
-}
-
-pub fn enter_treebin(r: &mut [u64; 72], i: u32, c: ChunkOff)
-    ensures { r.new ≡ enter_r tree r.old i c.0 }
-{
-    mark_treemap(r, i);
-    set_treebin(r, i, c);
-}
-
-// A bin gets another first member, or none: then its bit is cleared.
-pub fn relink_smallbin(r: &mut [u64; 72], i: u32, c: ChunkOff)
-    ensures { r.new ≡ relink_r wide small r.old i c.0 }
-{
-    if c.0 == NONE {
-        clear_smallmap(r, i);
-        set_smallbin(r, i, c);
-    } else {
-        set_smallbin(r, i, c);
-    }
-}
-
-pub fn relink_treebin(r: &mut [u64; 72], i: u32, c: ChunkOff)
-    ensures { r.new ≡ relink_r wide tree r.old i c.0 }
-{
-    if c.0 == NONE {
-        clear_treemap(r, i);
-        set_treebin(r, i, c);
-    } else {
-        set_treebin(r, i, c);
-    }
 }

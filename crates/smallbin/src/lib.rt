@@ -6,7 +6,7 @@ ghost use Rattle.words.specs.Edition.{wide};
 ghost use Rattle.smallbin.specs.SmallBytes.{link_new_w, join_w, insert_small, unlink_small, unlink_first};
 
 use chunk::access::{ChunkOff, NONE, link, put};
-use chunk::image::{enter_smallbin, relink_smallbin, smallbin_at};
+use chunk::image::{Small, bin_at, enter, relink};
 use index::sizes::small_index;
 
 // c goes before the newest, f.
@@ -31,8 +31,8 @@ pub fn insert_small_chunk(r: &mut [u64; 72], w: &mut [u64], c: ChunkOff, size: u
     ensures words { w.new ≡ (insert_small wide r.old w.old c.0 size).words }
 {
     let i = small_index(size);
-    let f = smallbin_at(r, i);
-    enter_smallbin(r, i, c);
+    let f = bin_at::<Small>(r, i);
+    enter::<Small>(r, i, c);
     link_new(w, c, f);
 }
 
@@ -44,7 +44,7 @@ pub fn unlink_small_chunk(r: &mut [u64; 72], w: &mut [u64], c: ChunkOff, size: u
     let b = link(w, c, 3);
     join(w, f, b);
     if b.0 == NONE {
-        relink_smallbin(r, small_index(size), f);
+        relink::<Small>(r, small_index(size), f);
     }
 }
 
@@ -54,5 +54,5 @@ pub fn unlink_first_small_chunk(r: &mut [u64; 72], w: &mut [u64], c: ChunkOff, i
 {
     let f = link(w, c, 2);
     put(w, f, 3, NONE);
-    relink_smallbin(r, i, f);
+    relink::<Small>(r, i, f);
 }
