@@ -1,7 +1,7 @@
 -- The laws of `BinMap`, for every width w: what a mark, a clear and a search do to each bit, stated once over the index; that a map which tells of
 -- some bins goes on doing so when one bin changes; and, for each definition, the operators of the code that give it. In terms of the digits
 -- of a number (`Bit`), and of a yes or no for each bin. Assumes nothing.
-use Rattle.std.specs.Prelude.{◌≡◌, ℕ, zero, suc, ◌+◌, ◌-◌, ◌*◌, ◌/◌, ◌%◌, ◌^◌, ◌<◌, ◌≤◌, min, max, Bool, true, false, not, ◌≢◌, ◌==◌, nat_eq, nat_lt, refl}
+use Rattle.std.specs.Prelude.{◌≡◌, ℕ, zero, suc, ◌+◌, ◌-◌, ◌*◌, ◌/◌, ◌%◌, ◌^◌, ◌<◌, ◌≤◌, min, max, Bool, true, false, not, ◌≢◌, ◌==◌, nat_eq, nat_lt, refl, Option, Some, None}
 use Rattle.std.proofs.Common.{sym, ap, ap₂, ◌∙◌, subst, ⊎_elim, mod-eq_of_lt, one-mul, lt_of_le_of_lt, lt_of_lt_of_le, le_antisymm, sub-le, mod-lt, zero-mul, le_of_lt, sub-add_cancel, add_comm, div-one, zero-add, add-one, arith, lt-ltb, le-ltb, ne_eqb, pow_pos, pow_mono, pow-add}
 use Rattle.std.proofs.Math.Nat.{mod_self, sub-zero}
 use Rattle.std.proofs.Math.Decide.{ℕ_discrete, dec_lt}
@@ -14,7 +14,7 @@ use Rattle.words.specs.Logic.{pick, le_or_lt}
 use Rattle.index.specs.Bit.{bit, tell}
 use Rattle.index.specs.Digits.{bit-zero, bit_shr, bit_small, bit_of_zero, bit_or_lem, bit_and_lem, bit_not, bit_pow, bit_pow_other, bits_ext, trailing_clear, trailing_set, trailing_even, trailing_odd, trailing_low, trailing_more, trailing_mono, trailing_shifted}
 use Rattle.index.specs.Words.{and_pow, and_not, and_neg, or_neg, neg_word}
-use Rattle.index.specs.BinMap.{Tells, mark, clear, left_bits, least_bit, First, FirstBin, first_from, own_or_next}
+use Rattle.index.specs.BinMap.{Tells, mark, clear, left_bits, least_bit, First, FirstBin, first_from, own_or_next, in_map}
 
 -- ---- the machine operations
 
@@ -306,3 +306,14 @@ own_or_none w m i e =
     let a : bit i m ≡ 0 = omega arith in
     let b : bit (i + 1) m ≡ 0 = omega arith in
     ap (λ (x : ℕ). pick (x == 1) i (pick (bit (i + 1) m == 1) (i + 1) w)) a ∙ ap (λ (x : ℕ). pick (x == 1) (i + 1) w) b
+
+-- what it says that a place of a map was found, and that none was
+pub place : (w x j : ℕ) → Some j ≡ in_map w x → (x ≡ j) × (x < w)
+place w x j q =
+    ⊎_elim
+    (λ l. let e : Some j ≡ None = q ∙ rw (le-ltb x w l) refl in absurd (cc))
+    (λ l. let e : Some j ≡ Some x = q ∙ rw (lt-ltb x w l) refl in ((cc), l))
+    (le_or_lt w x)
+
+pub no_place : (w x : ℕ) → None ≡ in_map w x → w ≤ x
+no_place w x q = ⊎_elim (λ l. l) (λ l. let e : None ≡ Some x = q ∙ rw (lt-ltb x w l) refl in absurd (cc)) (le_or_lt w x)

@@ -1,7 +1,7 @@
 -- Insertion: each contract clause, branch by branch. A law's premises are what the code knows where it returns (its callees' equations and the
 -- tests on the way), its conclusion is the clause; `search` then finds it. Straight lines are congruence, a branch is the definition's `pick`
 -- at the test's outcome. The loop keeps one equation: the way down from the root is the way down from here.
-use Prim.Native.Nat.{ℕ, suc, ◌-◌, ◌*◌, ◌%◌, ◌^◌, ◌<◌, ◌≤◌}
+use Prim.Native.Nat.{ℕ, suc, ◌+◌, ◌-◌, ◌*◌, ◌%◌, ◌^◌, ◌<◌, ◌≤◌}
 use mathlib.Core.Path.{◌≡◌, refl, sym, ap, ◌∙◌}
 use mathlib.Core.List.{List}
 use native.Mathlib.Omega.{arith}
@@ -11,42 +11,42 @@ use Rattle.words.specs.Logic.{pick}
 use Rattle.words.specs.Edition.{wide, no_link}
 use Rattle.index.specs.TreeBin.{tree_index, key_at}
 use Rattle.chunk.specs.Bytes.{word, put, size_b, tree, link_of, enter_r}
-use Rattle.treebin.specs.TreeBytes.{seat, child_word, next_key, seek_b, tie_w, slot_w, ring_w, seat_w, insert_large}
+use Rattle.treebin.specs.TreeBytes.{Seat, seat, child_word, next_key, seek_b, tie_w, slot_w, ring_w, seat_w, insert_large}
 
 -- ---- the way down: the loop of `seek`
 
-pub record Seek (w : List ℕ) (n root key t k left : ℕ) : Type 0 where
-  pub low : left ≤ 64
-  pub same : seek_b wide w n 64 root key ≡ seek_b wide w n left t k
+pub record Seek (w : List ℕ) (n root key t k j : ℕ) : Type 0 where
+  pub low : j ≤ 64
+  pub same : seek_b wide w n 64 root key ≡ seek_b wide w n (64 - j) t k
 
 -- one level of the definition
-seek_step : (w : List ℕ) (n left t k : ℕ) → 0 < left
-    → seek_b wide w n left t k
+seek_step : (w : List ℕ) (n j t k : ℕ) → j < 64
+    → seek_b wide w n (64 - j) t k
     ≡ pick (eqb (size_b wide w t) n) (seat t 0)
-    (pick (eqb (word wide w t (child_word wide k)) (no_link wide)) (seat t (child_word wide k)) (seek_b wide w n (left - 1) (word wide w t (child_word wide k)) (next_key wide k)))
+    (pick (eqb (word wide w t (child_word wide k)) (no_link wide)) (seat t (child_word wide k)) (seek_b wide w n (64 - (j + 1)) (word wide w t (child_word wide k)) (next_key wide k)))
 unfolding seek_b
-seek_step w n left t k l = ap (λ x. seek_b wide w n x t k) (let z : left ≡ suc (left - 1) = omega arith in z)
+seek_step w n j t k l = ap (λ x. seek_b wide w n x t k) (let z : 64 - j ≡ suc (64 - (j + 1)) = omega arith in z)
 
-module _ (w : List ℕ) (n root key t k left : ℕ) (v : Seek w n root key t k left) where
-  pub seek_out : left ≤ 0 → seat t 0 ≡ seek_b wide w n 64 root key
+module _ (w : List ℕ) (n root key t k j : ℕ) (v : Seek w n root key t k j) where
+  pub seek_out : 64 ≤ j → seat t 0 ≡ seek_b wide w n 64 root key
   unfolding seek_b
-  seek_out l = sym (v.same ∙ ap (λ x. seek_b wide w n x t k) (let z : left ≡ 0 = omega arith in z))
+  seek_out l = sym (v.same ∙ ap (λ x. seek_b wide w n x t k) (let z : 64 - j ≡ 0 = omega arith in z))
 
-  module _ {s : ℕ} (l : 0 < left) (e : s ≡ size_b wide w t) where
+  module _ {s : ℕ} (l : j < 64) (e : s ≡ size_b wide w t) where
     pub seek_here : s ≡ n → seat t 0 ≡ seek_b wide w n 64 root key
-    seek_here q = rw (v.same, seek_step w n left t k l, eq-eqb (size_b wide w t) n (sym e ∙ q)) refl
+    seek_here q = rw (v.same, seek_step w n j t k l, eq-eqb (size_b wide w t) n (sym e ∙ q)) refl
 
     module _ {side c : ℕ} (m : s ≡ n → ⊥) (e₁ : side ≡ child_word wide k) (e₂ : c ≡ word wide w t side) where
       child : c ≡ word wide w t (child_word wide k)
       child = e₂ ∙ ap (word wide w t) e₁
 
       pub seek_free : c ≡ 2 ^ 64 - 1 → seat t side ≡ seek_b wide w n 64 root key
-      seek_free q = rw (v.same, seek_step w n left t k l, ne_eqb (size_b wide w t) n (λ z. m (e ∙ z)), eq-eqb (word wide w t (child_word wide k)) (2 ^ 64 - 1) (sym child ∙ q)) (ap (seat t) e₁)
+      seek_free q = rw (v.same, seek_step w n j t k l, ne_eqb (size_b wide w t) n (λ z. m (e ∙ z)), eq-eqb (word wide w t (child_word wide k)) (2 ^ 64 - 1) (sym child ∙ q)) (ap (seat t) e₁)
 
-      seek_down : {k₁ : ℕ} → (c ≡ 2 ^ 64 - 1 → ⊥) → k₁ ≡ k * 2 % 2 ^ 64 → seek_b wide w n 64 root key ≡ seek_b wide w n (left - 1) c k₁
-      seek_down q e₃ = rw (v.same, seek_step w n left t k l, ne_eqb (size_b wide w t) n (λ z. m (e ∙ z)), ne_eqb (word wide w t (child_word wide k)) (2 ^ 64 - 1) (λ z. q (child ∙ z))) (cc)
+      seek_down : {k₁ : ℕ} → (c ≡ 2 ^ 64 - 1 → ⊥) → k₁ ≡ k * 2 % 2 ^ 64 → seek_b wide w n 64 root key ≡ seek_b wide w n (64 - (j + 1)) c k₁
+      seek_down q e₃ = rw (v.same, seek_step w n j t k l, ne_eqb (size_b wide w t) n (λ z. m (e ∙ z)), ne_eqb (word wide w t (child_word wide k)) (2 ^ 64 - 1) (λ z. q (child ∙ z))) (cc)
 
-      pub seek_turn : {k₁ : ℕ} → (c ≡ 2 ^ 64 - 1 → ⊥) → k₁ ≡ k * 2 % 2 ^ 64 → Seek w n root key c k₁ (left - 1)
+      pub seek_turn : {k₁ : ℕ} → (c ≡ 2 ^ 64 - 1 → ⊥) → k₁ ≡ k * 2 % 2 ^ 64 → Seek w n root key c k₁ (j + 1)
       seek_turn q e₃ = record { low = omega (arith, v.low); same = seek_down q e₃ }
 
 -- ---- writes
@@ -102,7 +102,7 @@ module _ (r w : List ℕ) (c n : ℕ) {i root : ℕ} (e : i ≡ tree_index n) (e
     unfolding insert_large
     more_image = rw (ne_eqb (link_of tree r (tree_index n)) (2 ^ 64 - 1) root_there) refl
 
-    pub more_words : {key t side : ℕ} {w₁ : List ℕ} → key ≡ key_at 64 (i % 32) n 0 → seat t side ≡ seek_b wide w n 64 root key → w₁ ≡ seat_w wide w c i (seat t side) → w₁ ≡ (insert_large wide r w c n).words
+    pub more_words : {key : ℕ} {s : Seat} {w₁ : List ℕ} → key ≡ key_at 64 (i % 32) n 0 → s ≡ seek_b wide w n 64 root key → w₁ ≡ seat_w wide w c i s → w₁ ≡ (insert_large wide r w c n).words
     unfolding insert_large
     more_words e₂ e₃ e₄ = rw (ne_eqb (link_of tree r (tree_index n)) (2 ^ 64 - 1) root_there) (cc)
 

@@ -1,7 +1,7 @@
 -- Unlinking: each contract clause, branch by branch. A law's premises are what the code knows where it returns, its conclusion is the clause.
 -- Straight lines are congruence, a branch is the definition's `pick` at the test's outcome. The loop keeps one equation: the deepest descendant
 -- below the start is the deepest below here.
-use Prim.Native.Nat.{ℕ, suc, ◌-◌, ◌%◌, ◌^◌, ◌<◌, ◌≤◌}
+use Prim.Native.Nat.{ℕ, suc, ◌+◌, ◌-◌, ◌%◌, ◌^◌, ◌<◌, ◌≤◌}
 use mathlib.Core.Path.{◌≡◌, refl, sym, ap, ◌∙◌}
 use mathlib.Core.List.{List}
 use native.Mathlib.Omega.{arith}
@@ -22,32 +22,32 @@ module _ (w : List ℕ) (t : ℕ) {h : ℕ} (e : h ≡ word wide w t 5) where
 
 -- ---- the heir: the loop of `deepest`, and what is taken from its end
 
-pub record Deep (w : List ℕ) (c side t k left : ℕ) : Type 0 where
-  pub low : left ≤ 64
-  pub same : deep_b wide w 64 c side ≡ deep_b wide w left t k
+pub record Deep (w : List ℕ) (c side t k j : ℕ) : Type 0 where
+  pub low : j ≤ 64
+  pub same : deep_b wide w 64 c side ≡ deep_b wide w (64 - j) t k
 
 -- one level of the definition, h being the child
-deep_step : (w : List ℕ) (left t k h : ℕ) → h ≡ word wide w t k → 0 < left
-    → deep_b wide w left t k ≡ pick (eqb (word wide w h (last_side wide w h)) (no_link wide)) (seat t k) (deep_b wide w (left - 1) h (last_side wide w h))
+deep_step : (w : List ℕ) (j t k h : ℕ) → h ≡ word wide w t k → j < 64
+    → deep_b wide w (64 - j) t k ≡ pick (eqb (word wide w h (last_side wide w h)) (no_link wide)) (seat t k) (deep_b wide w (64 - (j + 1)) h (last_side wide w h))
 unfolding deep_b
-deep_step w left t k h e l = rw e (ap (λ x. deep_b wide w x t k) (let z : left ≡ suc (left - 1) = omega arith in z))
+deep_step w j t k h e l = rw e (ap (λ x. deep_b wide w x t k) (let z : 64 - j ≡ suc (64 - (j + 1)) = omega arith in z))
 
-module _ (w : List ℕ) (c side t k left : ℕ) (v : Deep w c side t k left) where
-  pub deep_out : left ≤ 0 → seat t k ≡ deep_b wide w 64 c side
+module _ (w : List ℕ) (c side t k j : ℕ) (v : Deep w c side t k j) where
+  pub deep_out : 64 ≤ j → seat t k ≡ deep_b wide w 64 c side
   unfolding deep_b
-  deep_out l = sym (v.same ∙ ap (λ x. deep_b wide w x t k) (let z : left ≡ 0 = omega arith in z))
+  deep_out l = sym (v.same ∙ ap (λ x. deep_b wide w x t k) (let z : 64 - j ≡ 0 = omega arith in z))
 
-  module _ {h below x : ℕ} (l : 0 < left) (e : h ≡ word wide w t k) (e₁ : below ≡ last_side wide w h) (e₂ : x ≡ word wide w h below) where
+  module _ {h below x : ℕ} (l : j < 64) (e : h ≡ word wide w t k) (e₁ : below ≡ last_side wide w h) (e₂ : x ≡ word wide w h below) where
     under : x ≡ word wide w h (last_side wide w h)
     under = e₂ ∙ ap (word wide w h) e₁
 
     pub deep_found : x ≡ 2 ^ 64 - 1 → seat t k ≡ deep_b wide w 64 c side
-    deep_found q = rw (v.same, deep_step w left t k h e l, eq-eqb (word wide w h (last_side wide w h)) (2 ^ 64 - 1) (sym under ∙ q)) refl
+    deep_found q = rw (v.same, deep_step w j t k h e l, eq-eqb (word wide w h (last_side wide w h)) (2 ^ 64 - 1) (sym under ∙ q)) refl
 
-    deep_down : (x ≡ 2 ^ 64 - 1 → ⊥) → deep_b wide w 64 c side ≡ deep_b wide w (left - 1) h below
-    deep_down q = rw (v.same, deep_step w left t k h e l, ne_eqb (word wide w h (last_side wide w h)) (2 ^ 64 - 1) (λ z. q (under ∙ z))) (cc)
+    deep_down : (x ≡ 2 ^ 64 - 1 → ⊥) → deep_b wide w 64 c side ≡ deep_b wide w (64 - (j + 1)) h below
+    deep_down q = rw (v.same, deep_step w j t k h e l, ne_eqb (word wide w h (last_side wide w h)) (2 ^ 64 - 1) (λ z. q (under ∙ z))) (cc)
 
-    pub deep_turn : (x ≡ 2 ^ 64 - 1 → ⊥) → Deep w c side h below (left - 1)
+    pub deep_turn : (x ≡ 2 ^ 64 - 1 → ⊥) → Deep w c side h below (j + 1)
     deep_turn q = record { low = omega (arith, v.low); same = deep_down q }
 
 module _ (w : List ℕ) (c : ℕ) {side x : ℕ} (e : side ≡ last_side wide w c) (e₁ : x ≡ word wide w c side) where

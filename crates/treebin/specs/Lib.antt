@@ -1,6 +1,8 @@
 -- Tree bins: the words level, and that its steps keep what is held.
 pub mod TreeBytes
+pub mod Seats
 pub mod SearchBytes
+pub mod Finds
 pub mod Binning
 pub mod WayDown
 pub mod TreeHeld

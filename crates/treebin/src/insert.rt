@@ -2,18 +2,29 @@
 ghost use Rattle.std.specs.Prelude.{◌≡◌};
 ghost use Rattle.words.specs.Edition.{wide, no_link};
 ghost use Rattle.chunk.specs.Bytes.{put};
-ghost use Rattle.treebin.specs.TreeBytes.{seat, child_word, next_key, seek_b, tie_w, slot_w, ring_w, seat_w, insert_large};
+ghost use Rattle.treebin.specs.Seats.{HasWord, seat_of};
+ghost use Rattle.treebin.specs.TreeBytes.{child_word, next_key, seek_b, tie_w, slot_w, ring_w, seat_w, insert_large};
 
 use chunk::access::{ChunkOff, NONE, ROOT, link, put};
 use chunk::heads::size;
-use chunk::image::{enter_treebin, treebin_at};
+use chunk::image::{Tree, bin_at, enter};
 use index::tree_bin::{child_side, compute_tree_index, first_key, next_key};
 
-// A word of a node; side 0 stands for its ring.
+// The bound of every walk: no held tree is that deep.
+pub const LEVELS: u32 = 64;
+
+// A child word of a node.
 #[derive(Clone, Copy)]
 pub struct Place {
     pub at: ChunkOff,
     pub side: u32,
+}
+
+// Where a newcomer goes: below a child word that leads nowhere, or into the ring of a node of its size.
+#[derive(Clone, Copy)]
+enum Seat {
+    Below(Place),
+    InRing(ChunkOff),
 }
 
 // The child word that the highest bit of a key chooses.
@@ -25,26 +36,25 @@ pub fn child_word(key: u64) -> u32
 }
 
 // Where a size goes below a root.
-fn seek(w: &[u64], root: ChunkOff, n: u64, key: u64) -> Place
-    ensures { seat result.at.0 result.side ≡ seek_b wide w.now n 64 root.0 key }
+fn seek(w: &[u64], root: ChunkOff, n: u64, key: u64) -> Seat
+    ensures seat { seat_of result ≡ seek_b wide w.now n 64 root.0 key }
+    ensures word { HasWord result }
 {
     let mut t = root;
     let mut k = key;
-    let mut left: u32 = 64;
-    while left > 0 {
+    for _ in 0..LEVELS {
         if size(w, t) == n {
-            return Place { at: t, side: 0 };
+            return Seat::InRing(t);
         }
         let side = child_word(k);
         let c = link(w, t, side);
         if c.0 == NONE {
-            return Place { at: t, side };
+            return Seat::Below(Place { at: t, side });
         }
         t = c;
         k = next_key(k);
-        left -= 1;
     }
-    Place { at: t, side: 0 }
+    Seat::InRing(t)
 }
 
 // A node of bin i without children.
@@ -92,14 +102,16 @@ fn link_ring(w: &mut [u64], c: ChunkOff, i: u32, t: ChunkOff, f: ChunkOff)
     leaf(w, c, i);
 }
 
-fn link_below(w: &mut [u64], c: ChunkOff, i: u32, t: ChunkOff, side: u32)
-    ensures { w.new ≡ seat_w wide w.old c.0 i (seat t.0 side) }
+fn link_at(w: &mut [u64], c: ChunkOff, i: u32, seat: Seat)
+    requires { HasWord seat }
+    ensures { w.new ≡ seat_w wide w.old c.0 i (seat_of seat) }
 {
-    if side == 0 {
-        let f = link(w, t, 2);
-        link_ring(w, c, i, t, f);
-    } else {
-        link_slot(w, c, i, t, side);
+    match seat {
+        Seat::Below(up) => link_slot(w, c, i, up.at, up.side),
+        Seat::InRing(t) => {
+            let f = link(w, t, 2);
+            link_ring(w, c, i, t, f);
+        }
     }
 }
 
@@ -108,12 +120,12 @@ pub fn insert_large_chunk(r: &mut [u64; 72], w: &mut [u64], c: ChunkOff, n: u64)
     ensures words { w.new ≡ (insert_large wide r.old w.old c.0 n).words }
 {
     let i = compute_tree_index(n);
-    let root = treebin_at(r, i);
+    let root = bin_at::<Tree>(r, i);
     if root.0 == NONE {
-        enter_treebin(r, i, c);
+        enter::<Tree>(r, i, c);
         tie(w, c, ChunkOff(ROOT), i);
     } else {
-        let s = seek(w, root, n, first_key(n, i));
-        link_below(w, c, i, s.at, s.side);
+        let seat = seek(w, root, n, first_key(n, i));
+        link_at(w, c, i, seat);
     }
 }

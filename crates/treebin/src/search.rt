@@ -1,21 +1,24 @@
 // The searches of tmalloc_small and tmalloc_large: the best node by its remainder.
 ghost use Rattle.std.specs.Prelude.{◌≡◌, ◌+◌};
 ghost use Rattle.words.specs.Edition.{wide, no_link};
+ghost use Rattle.treebin.specs.Finds.{Finds};
 ghost use Rattle.treebin.specs.SearchBytes.{best, no_best, better_b, leftmost, down_b, passed_by, walked, walk_b, best_above, best_tree};
 
-use crate::insert::child_word;
+use crate::insert::{LEVELS, child_word};
 use chunk::access::{ChunkOff, NONE, link};
 use chunk::heads::size;
-use chunk::image::{treebin_at, treemap};
+use chunk::image::{Tree, bin_at, map};
 use index::bin_map::filled_from;
 use index::tree_bin::{child_side, compute_tree_index, first_key, next_key};
 
+// The best node so far and what it leaves over, or NONE with the largest remainder, so that any node is better.
 #[derive(Clone, Copy)]
 pub struct Found {
     pub at: ChunkOff,
     pub rsize: u64,
 }
 
+// The best on a way down, and the deepest right subtree passed by.
 #[derive(Clone, Copy)]
 pub struct Way {
     pub found: Found,
@@ -61,14 +64,12 @@ pub fn smallest(w: &[u64], from: ChunkOff, n: u64, had: Found) -> Found
 {
     let mut t = from;
     let mut b = had;
-    let mut left: u32 = 64;
-    while left > 0 {
+    for _ in 0..LEVELS {
         if t.0 == NONE {
             break;
         }
         b = better(b, t, size(w, t), n);
         t = leftmost_child(w, t);
-        left -= 1;
     }
     b
 }
@@ -93,14 +94,10 @@ pub fn walk_own(w: &[u64], root: ChunkOff, n: u64, key: u64) -> Way
     let mut b = no_best();
     let mut rest = ChunkOff(NONE);
     let mut k = key;
-    let mut left: u32 = 64;
-    let way = loop {
-        if left == 0 {
-            break Way { found: b, rest };
-        }
+    for _ in 0..LEVELS {
         b = better(b, t, size(w, t), n);
         if b.rsize == 0 {
-            break Way {
+            return Way {
                 found: b,
                 rest: ChunkOff(NONE),
             };
@@ -108,34 +105,39 @@ pub fn walk_own(w: &[u64], root: ChunkOff, n: u64, key: u64) -> Way
         rest = passed_by(w, t, k, rest);
         t = link(w, t, child_word(k));
         if t.0 == NONE {
-            break Way { found: b, rest };
+            break;
         }
         k = next_key(k);
-        left -= 1;
-    };
-    way
+    }
+    Way { found: b, rest }
+}
+
+// What was found, if it is a node.
+fn known(b: Found) -> Option<Found>
+    ensures { Finds result (best b.at.0 b.rsize) }
+{
+    if b.at.0 == NONE { None } else { Some(b) }
 }
 
 // The smallest of the first filled tree from bin i on.
-pub fn best_from(r: &[u64; 72], w: &[u64], i: u32, n: u64) -> Found
-    ensures { best result.at.0 result.rsize ≡ best_above wide r.now w.now i n }
+pub fn best_from(r: &[u64; 72], w: &[u64], i: u32, n: u64) -> Option<Found>
+    ensures { Finds result (best_above wide r.now w.now i n) }
 {
     if i > 31 {
-        return no_best();
+        return None;
     }
-    let j = filled_from(treemap(r), i);
-    if j < 32 {
-        return smallest(w, treebin_at(r, j), n, no_best());
+    match filled_from(map::<Tree>(r), i) {
+        Some(j) => known(smallest(w, bin_at::<Tree>(r, j), n, no_best())),
+        None => None,
     }
-    no_best()
 }
 
-// The smallest tree chunk that fits, by its remainder; none where none fits.
-pub fn best_tree(r: &[u64; 72], w: &[u64], n: u64) -> Found
-    ensures { best result.at.0 result.rsize ≡ best_tree wide r.now w.now n }
+// The smallest tree chunk that fits, by its remainder.
+pub fn best_tree(r: &[u64; 72], w: &[u64], n: u64) -> Option<Found>
+    ensures { Finds result (best_tree wide r.now w.now n) }
 {
     let i = compute_tree_index(n);
-    let root = treebin_at(r, i);
+    let root = bin_at::<Tree>(r, i);
     if root.0 == NONE {
         return best_from(r, w, i + 1, n);
     }
@@ -145,5 +147,5 @@ pub fn best_tree(r: &[u64; 72], w: &[u64], n: u64) -> Found
     if b.at.0 == NONE {
         return best_from(r, w, i + 1, n);
     }
-    b
+    Some(b)
 }

@@ -5,9 +5,9 @@ ghost use Rattle.words.specs.Edition.{wide};
 ghost use Rattle.chunk.specs.Bytes.{word, put};
 ghost use Rattle.treebin.specs.TreeBytes.{seat, last_side, deep_b, pop_w, pop_heir, lead_r, lead_w, adopt_w, replace_tree, unlink_large};
 
-use crate::insert::Place;
+use crate::insert::{LEVELS, Place};
 use chunk::access::{ChunkOff, NONE, ROOT, get, link, put};
-use chunk::image::relink_treebin;
+use chunk::image::{Tree, relink};
 use smallbin::join;
 
 // The child word to go down by.
@@ -23,8 +23,7 @@ fn deepest(w: &[u64], c: ChunkOff, side: u32) -> Place
 {
     let mut t = c;
     let mut k = side;
-    let mut left: u32 = 64;
-    while left > 0 {
+    for _ in 0..LEVELS {
         let h = link(w, t, k);
         let below = last_side(w, h);
         if get(w, h, below) == NONE {
@@ -32,7 +31,6 @@ fn deepest(w: &[u64], c: ChunkOff, side: u32) -> Place
         }
         t = h;
         k = below;
-        left -= 1;
     }
     Place { at: t, side: k }
 }
@@ -66,7 +64,7 @@ fn lead_to(r: &mut [u64; 72], w: &mut [u64], c: ChunkOff, up: ChunkOff, v: Chunk
 {
     if up.0 == ROOT {
         let i = (get(w, c, 7) % 32) as u32;
-        relink_treebin(r, i, v);
+        relink::<Tree>(r, i, v);
     } else {
         let side = child_slot(w, up, c);
         put(w, up, side, v.0);

@@ -7,6 +7,6 @@ returns-then-root c = search (laws, rules)
 
 pub returns-else-root : goal.returns-else-root
 returns-else-root c = record {
-  image = more_image _ _ _ _ c.compute_tree_index-i.ensures c.treebin_at-root.ensures c.if-root.false;
+  image = more_image _ _ _ _ c.compute_tree_index-i.ensures c.bin_at-root.ensures c.if-root.false;
   words = search (laws, rules);
 }

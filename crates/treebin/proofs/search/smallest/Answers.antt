@@ -4,14 +4,14 @@ use borrow.Author.Rules.{rules}
 use Rattle.treebin.proofs.SearchLaws.{laws}
 use Rattle.treebin.proofs.search.smallest.Goals as goal
 
-pub loop-left-init : goal.loop-left-init
-loop-left-init c = record { low = omega arith; same = refl }
+pub loop-init : goal.loop-init
+loop-init c = record { low = omega arith; same = refl }
 
-pub loop-left-preserved : goal.loop-left-preserved
-loop-left-preserved c = search (laws, rules)
+pub loop-preserved : goal.loop-preserved
+loop-preserved c = search (laws, rules)
 
-pub returns-after-loop-left : goal.returns-after-loop-left
-returns-after-loop-left c = search (laws, rules)
+pub returns-after-loop : goal.returns-after-loop
+returns-after-loop c = search (laws, rules)
 
 pub returns-then-t : goal.returns-then-t
 returns-then-t c = search (laws, rules)
