@@ -1,4 +1,6 @@
 // The arena's words, through one pair of accessors, and places as offsets in bytes.
+#![tactic(auto, using(crate::proofs::Laws::laws))]
+
 ghost use Rattle.std.specs.Prelude.{◌≡◌, ◌+◌, ◌-◌};
 ghost use Rattle.words.specs.Edition.{wide};
 ghost use Rattle.chunk.specs.Bytes.{wrap, less, word, put};

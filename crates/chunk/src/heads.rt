@@ -1,4 +1,6 @@
 // The `Chunk::` readers and setters of heads and feet.
+#![tactic(auto, using(crate::proofs::Laws::laws))]
+
 ghost use Rattle.std.specs.Prelude.{◌≡◌};
 ghost use Rattle.words.specs.Edition.{wide};
 ghost use Rattle.chunk.specs.Bytes.{size_b, cinuse_b, pinuse_b, pinuse_w, unpin_w, used_w, top_w, free_w, give_w, take_w, inuse_w};

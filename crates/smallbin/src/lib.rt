@@ -1,5 +1,5 @@
 // Port order 3: small bins, last in, first out. Plain heads in the record, none at the ends; a link to none writes nothing.
-#![tactic(auto)]
+#![tactic(auto, using(crate::proofs::Laws::laws))]
 
 ghost use Rattle.std.specs.Prelude.{◌≡◌};
 ghost use Rattle.words.specs.Edition.{wide};

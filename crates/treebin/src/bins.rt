@@ -1,4 +1,6 @@
 // Both kinds of bin, by the size; and the spare chunk.
+#![tactic(auto, using(crate::proofs::BinsLaws::laws))]
+
 ghost use Rattle.std.specs.Prelude.{◌≡◌};
 ghost use Rattle.words.specs.Edition.{wide};
 ghost use Rattle.treebin.specs.Binning.{insert_chunk, unlink_chunk, replace_dv};

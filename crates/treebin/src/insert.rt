@@ -1,4 +1,6 @@
 // Insertion: a newcomer becomes the root, a child, or the last of a ring.
+#![tactic(auto, using(crate::proofs::InsertLaws::laws))]
+
 ghost use Rattle.std.specs.Prelude.{◌≡◌};
 ghost use Rattle.words.specs.Edition.{wide, no_link};
 ghost use Rattle.chunk.specs.Bytes.{put};

@@ -1,4 +1,6 @@
 // The searches of tmalloc_small and tmalloc_large: the best node by its remainder.
+#![tactic(auto, using(crate::proofs::SearchLaws::laws))]
+
 ghost use Rattle.std.specs.Prelude.{◌≡◌, ◌+◌};
 ghost use Rattle.words.specs.Edition.{wide, no_link};
 ghost use Rattle.treebin.specs.Finds.{Finds};

@@ -1,4 +1,6 @@
 // Unlinking: a ring member's next takes its place, else the deepest descendant, child 1 before child 0.
+#![tactic(auto, using(crate::proofs::UnlinkLaws::laws))]
+
 ghost use Rattle.std.specs.Prelude.{◌≡◌, eqb};
 ghost use Rattle.words.specs.Logic.{pick};
 ghost use Rattle.words.specs.Edition.{wide};

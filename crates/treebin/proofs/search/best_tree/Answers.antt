@@ -7,9 +7,6 @@ use Rattle.treebin.proofs.search.best_tree.Goals as goal
 pub overflow_add-i : goal.overflow_add-i
 overflow_add-i c = omega (arith, tree_lt c.args.n)
 
-pub returns-then-root : goal.returns-then-root
-returns-then-root c = search (laws, rules)
-
 pub overflow_add-i-then-b : goal.overflow_add-i-then-b
 overflow_add-i-then-b c = omega (arith, tree_lt c.args.n)
 

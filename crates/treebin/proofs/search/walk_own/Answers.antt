@@ -2,15 +2,6 @@ use borrow.Author.Rules.{rules}
 use Rattle.treebin.proofs.SearchLaws.{laws}
 use Rattle.treebin.proofs.search.walk_own.Goals as goal
 
-pub loop-init : goal.loop-init
-loop-init c = search (laws, rules)
-
-pub loop-preserved : goal.loop-preserved
-loop-preserved c = search (laws, rules)
-
-pub returns-after-loop : goal.returns-after-loop
-returns-after-loop c = search (laws, rules)
-
 pub returns-then-b-eq0 : goal.returns-then-b-eq0
 returns-then-b-eq0 c = search (laws, rules)
 

@@ -1,6 +1,0 @@
-use Rattle.chunk.proofs.Laws.{laws}
-use Rattle.std.proofs.Common.{rules}
-use Rattle.chunk.proofs.heads.set_top_head.Goals as goal
-
-pub returns : goal.returns
-returns c = search (laws, rules)

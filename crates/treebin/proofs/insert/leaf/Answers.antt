@@ -1,6 +1,0 @@
-use borrow.Author.Rules.{rules}
-use Rattle.treebin.proofs.InsertLaws.{laws}
-use Rattle.treebin.proofs.insert.leaf.Goals as goal
-
-pub returns : goal.returns
-returns c = search (laws, rules)
