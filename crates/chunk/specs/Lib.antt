@@ -5,4 +5,5 @@ pub mod Plain
 pub mod PlainInuse
 pub mod Held
 pub mod PlainLinks
+pub mod Running
 pub mod ChunkReach

@@ -1,10 +1,12 @@
 // The record as 72 words: smallmap, treemap, dv, dvsize, top, topsize, length, a word that is 0, 32 small-bin heads, 32 tree roots.
 // What stands where is said here and nowhere else.
-ghost use Rattle.std.specs.Prelude.{◌≡◌, ℕ, ◌+◌, ◌%◌, ◌<◌, refl};
+ghost use Rattle.std.specs.Prelude.{◌≡◌, ℕ, ◌+◌, ◌%◌, ◌<◌, slice_index, refl};
 ghost use Rattle.words.specs.Edition.{wide, no_link};
+ghost use Rattle.chunk.specs.Running.{Notes};
 ghost use Rattle.chunk.specs.Bytes.{set_dv, set_top, Kind, small, tree, map_at, link_at, map_of, link_of, set_link, mark_r, clear_r, enter_r, relink_r};
 
 use crate::access::{ChunkOff, NONE};
+use crate::heap::Heap;
 use index::bin_map::{with_bit, without_bit};
 
 pub const SMALLMAP: usize = 0;
@@ -114,41 +116,104 @@ pub fn set_bin<B: Bins>(r: &mut [u64; 72], i: u32, c: ChunkOff)
     r[link_word::<B>(i)] = c.0;
 }
 
-// A bin gets a first member.
-pub fn enter<B: Bins>(r: &mut [u64; 72], i: u32, c: ChunkOff)
-    ensures { r.new ≡ enter_r B.kind r.old i c.0 }
+// The spare chunk and its size.
+pub fn dv(r: &[u64; 72]) -> ChunkOff
+    ensures { result.0 ≡ slice_index r.now 2 }
 {
-    mark::<B>(r, i);
-    set_bin::<B>(r, i, c);
+    ChunkOff(r[DV])
 }
 
-// A bin gets another first member, or none: then its bit is cleared.
-pub fn relink<B: Bins>(r: &mut [u64; 72], i: u32, c: ChunkOff)
-    ensures { r.new ≡ relink_r wide B.kind r.old i c.0 }
+pub fn dvsize(r: &[u64; 72]) -> u64
+    ensures { result ≡ slice_index r.now 3 }
 {
-    if c.0 == NONE {
-        clear::<B>(r, i);
+    r[DVSIZE]
+}
+
+// The top and its size.
+pub fn top(r: &[u64; 72]) -> ChunkOff
+    ensures { result.0 ≡ slice_index r.now 4 }
+{
+    ChunkOff(r[TOP])
+}
+
+pub fn topsize(r: &[u64; 72]) -> u64
+    ensures { result ≡ slice_index r.now 5 }
+{
+    r[TOPSIZE]
+}
+
+impl Heap<'_> {
+    pub fn dv(&self) -> ChunkOff
+        ensures { result.0 ≡ slice_index self.now.image.now 2 }
+    {
+        dv(self.image)
     }
-    set_bin::<B>(r, i, c);
-}
 
-pub fn set_dv(r: &mut [u64; 72], c: ChunkOff, n: u64)
-    ensures { r.new ≡ set_dv r.old c.0 n }
-{
-    r[DV] = c.0;
-    r[DVSIZE] = n;
-}
+    pub fn dvsize(&self) -> u64
+        ensures { result ≡ slice_index self.now.image.now 3 }
+    {
+        dvsize(self.image)
+    }
 
-pub fn no_dv(r: &mut [u64; 72])
-    ensures { r.new ≡ set_dv r.old (no_link wide) 0 }
-{
-    r[DV] = NONE;
-    r[DVSIZE] = 0;
-}
+    pub fn top(&self) -> ChunkOff
+        ensures { result.0 ≡ slice_index self.now.image.now 4 }
+    {
+        top(self.image)
+    }
 
-pub fn set_top(r: &mut [u64; 72], c: ChunkOff, n: u64)
-    ensures { r.new ≡ set_top r.old c.0 n }
-{
-    r[TOP] = c.0;
-    r[TOPSIZE] = n;
+    pub fn topsize(&self) -> u64
+        ensures { result ≡ slice_index self.now.image.now 5 }
+    {
+        topsize(self.image)
+    }
+
+    pub fn set_dv(&mut self, c: ChunkOff, n: u64)
+        ensures { Notes self.old self.new (set_dv self.old.image.now c.0 n) }
+    {
+        self.image[DV] = c.0;
+        self.image[DVSIZE] = n;
+    }
+
+    pub fn no_dv(&mut self)
+        ensures { Notes self.old self.new (set_dv self.old.image.now (no_link wide) 0) }
+    {
+        self.set_dv(ChunkOff(NONE), 0);
+    }
+
+    pub fn set_top(&mut self, c: ChunkOff, n: u64)
+        ensures { Notes self.old self.new (set_top self.old.image.now c.0 n) }
+    {
+        self.image[TOP] = c.0;
+        self.image[TOPSIZE] = n;
+    }
+
+    pub fn map<B: Bins>(&self) -> u32
+        ensures { result ≡ map_of B.kind self.now.image.now }
+    {
+        map::<B>(self.image)
+    }
+
+    pub fn bin_at<B: Bins>(&self, i: u32) -> ChunkOff
+        ensures { result.0 ≡ link_of B.kind self.now.image.now i }
+    {
+        bin_at::<B>(self.image, i)
+    }
+
+    // A bin gets a first member.
+    pub fn enter<B: Bins>(&mut self, i: u32, c: ChunkOff)
+        ensures { Notes self.old self.new (enter_r B.kind self.old.image.now i c.0) }
+    {
+        mark::<B>(self.image, i);
+        set_bin::<B>(self.image, i, c);
+    }
+
+    // A bin gets another first member, or none: then its bit is cleared.
+    pub fn relink<B: Bins>(&mut self, i: u32, c: ChunkOff)
+        ensures { Notes self.old self.new (relink_r wide B.kind self.old.image.now i c.0) }
+    {
+        if c.0 == NONE {
+            clear::<B>(self.image, i);
+        }
+        set_bin::<B>(self.image, i, c);
+    }
 }

@@ -3,56 +3,55 @@
 
 ghost use Rattle.std.specs.Prelude.{◌≡◌};
 ghost use Rattle.words.specs.Edition.{wide};
+ghost use Rattle.chunk.specs.Running.{Becomes, Writes};
 ghost use Rattle.smallbin.specs.SmallBytes.{link_new_w, join_w, insert_small, unlink_small, unlink_first};
 
-use chunk::access::{ChunkOff, NONE, link, put};
-use chunk::image::{Small, bin_at, enter, relink};
+use chunk::access::{ChunkOff, NONE};
+use chunk::heap::Heap;
+use chunk::image::Small;
 use index::sizes::small_index;
 
 // c goes before the newest, f.
-fn link_new(w: &mut [u64], c: ChunkOff, f: ChunkOff)
-    ensures { w.new ≡ link_new_w wide w.old c.0 f.0 }
+fn link_new(h: &mut Heap, c: ChunkOff, f: ChunkOff)
+    ensures { Writes h.old h.new (link_new_w wide h.old.words.now c.0 f.0) }
 {
-    put(w, f, 3, c.0);
-    put(w, c, 2, f.0);
-    put(w, c, 3, NONE);
+    h.put(f, 3, c.0);
+    h.put(c, 2, f.0);
+    h.put(c, 3, NONE);
 }
 
 // f, the older, and b, the newer, become neighbours.
-pub fn join(w: &mut [u64], f: ChunkOff, b: ChunkOff)
-    ensures { w.new ≡ join_w wide w.old f.0 b.0 }
+pub fn join(h: &mut Heap, f: ChunkOff, b: ChunkOff)
+    ensures { Writes h.old h.new (join_w wide h.old.words.now f.0 b.0) }
 {
-    put(w, f, 3, b.0);
-    put(w, b, 2, f.0);
+    h.put(f, 3, b.0);
+    h.put(b, 2, f.0);
 }
 
-pub fn insert_small_chunk(r: &mut [u64; 72], w: &mut [u64], c: ChunkOff, size: u64)
-    ensures image { r.new ≡ (insert_small wide r.old w.old c.0 size).image }
-    ensures words { w.new ≡ (insert_small wide r.old w.old c.0 size).words }
+pub fn insert_small_chunk(h: &mut Heap, c: ChunkOff, size: u64)
+    ensures { Becomes h.old h.new (insert_small wide h.old.image.now h.old.words.now c.0 size) }
 {
     let i = small_index(size);
-    let f = bin_at::<Small>(r, i);
-    enter::<Small>(r, i, c);
-    link_new(w, c, f);
+    let f = h.bin_at::<Small>(i);
+    h.enter::<Small>(i, c);
+    link_new(h, c, f);
 }
 
-pub fn unlink_small_chunk(r: &mut [u64; 72], w: &mut [u64], c: ChunkOff, size: u64)
-    ensures image { r.new ≡ (unlink_small wide r.old w.old c.0 size).image }
-    ensures words { w.new ≡ (unlink_small wide r.old w.old c.0 size).words }
+pub fn unlink_small_chunk(h: &mut Heap, c: ChunkOff, size: u64)
+    ensures { Becomes h.old h.new (unlink_small wide h.old.image.now h.old.words.now c.0 size) }
 {
-    let f = link(w, c, 2);
-    let b = link(w, c, 3);
-    join(w, f, b);
+    let f = h.link(c, 2);
+    let b = h.link(c, 3);
+    join(h, f, b);
     if b.0 == NONE {
-        relink::<Small>(r, small_index(size), f);
+        h.relink::<Small>(small_index(size), f);
     }
 }
 
-pub fn unlink_first_small_chunk(r: &mut [u64; 72], w: &mut [u64], c: ChunkOff, i: u32)
-    ensures image { r.new ≡ (unlink_first wide r.old w.old c.0 i).image }
-    ensures words { w.new ≡ (unlink_first wide r.old w.old c.0 i).words }
+pub fn unlink_first_small_chunk(h: &mut Heap, c: ChunkOff, i: u32)
+    ensures { Becomes h.old h.new (unlink_first wide h.old.image.now h.old.words.now c.0 i) }
 {
-    let f = link(w, c, 2);
-    put(w, f, 3, NONE);
-    relink::<Small>(r, i, f);
+    let f = h.link(c, 2);
+    h.put(f, 3, NONE);
+    h.relink::<Small>(i, f);
 }

@@ -98,12 +98,12 @@ module _ (r w : List ℕ) (c n : ℕ) {i root : ℕ} (e : i ≡ tree_index n) (e
     root_there : link_of tree r (tree_index n) ≡ 2 ^ 64 - 1 → ⊥
     root_there z = q (e₁ ∙ ap (link_of tree r) e ∙ z)
 
-    pub more_image : r ≡ (insert_large wide r w c n).image
+    pub more_image : {r₁ : List ℕ} → r₁ ≡ r → r₁ ≡ (insert_large wide r w c n).image
     unfolding insert_large
-    more_image = rw (ne_eqb (link_of tree r (tree_index n)) (2 ^ 64 - 1) root_there) refl
+    more_image e₂ = rw (ne_eqb (link_of tree r (tree_index n)) (2 ^ 64 - 1) root_there) e₂
 
     pub more_words : {key : ℕ} {s : Seat} {w₁ : List ℕ} → key ≡ key_at 64 (i % 32) n 0 → s ≡ seek_b wide w n 64 root key → w₁ ≡ seat_w wide w c i s → w₁ ≡ (insert_large wide r w c n).words
     unfolding insert_large
     more_words e₂ e₃ e₄ = rw (ne_eqb (link_of tree r (tree_index n)) (2 ^ 64 - 1) root_there) (cc)
 
-pub ruleset laws = (seek_out, seek_here, seek_free, seek_turn, leaf_w_lem, tie_w_lem, slot_w_lem, ring_w_lem, seat_slot, between_w_lem, first_image, first_words, more_words)
+pub ruleset laws = (seek_out, seek_here, seek_free, seek_turn, leaf_w_lem, tie_w_lem, slot_w_lem, ring_w_lem, seat_slot, between_w_lem, first_image, first_words, more_image, more_words)

@@ -89,14 +89,14 @@ module _ (r w : List ℕ) (c up v : ℕ) where
   unfolding lead_r
   bin-image q e e₁ = rw (eq-eqb up (2 ^ 64 - 2) q) (e₁ ∙ ap (λ x. relink_r wide tree r (x % 32) v) e)
 
-  pub parent_image : (up ≡ 2 ^ 64 - 2 → ⊥) → r ≡ lead_r wide r w c up v
+  pub parent_image : {r₁ : List ℕ} → (up ≡ 2 ^ 64 - 2 → ⊥) → r₁ ≡ r → r₁ ≡ lead_r wide r w c up v
   unfolding lead_r
-  parent_image q = rw (ne_eqb up (2 ^ 64 - 2) q) refl
+  parent_image q e = rw (ne_eqb up (2 ^ 64 - 2) q) e
 
 module _ (w : List ℕ) (c up v : ℕ) where
-  pub bin_words : up ≡ 2 ^ 64 - 2 → w ≡ lead_w wide w c up v
+  pub bin_words : {w₁ : List ℕ} → up ≡ 2 ^ 64 - 2 → w₁ ≡ w → w₁ ≡ lead_w wide w c up v
   unfolding lead_w
-  bin_words q = rw (eq-eqb up (2 ^ 64 - 2) q) refl
+  bin_words q e = rw (eq-eqb up (2 ^ 64 - 2) q) e
 
   pub parent_words : {side : ℕ} {w₁ : List ℕ} → (up ≡ 2 ^ 64 - 2 → ⊥) → side ≡ pick (eqb (word wide w up 4) c) 4 5 → w₁ ≡ put wide w up side v → w₁ ≡ lead_w wide w c up v
   unfolding lead_w

@@ -1,0 +1,36 @@
+// A heap at work: its record and the arena's words, both lent. The check, which changes nothing, reads them as they are.
+ghost use Rattle.std.specs.Prelude.{◌≡◌};
+ghost use Rattle.words.specs.Edition.{wide};
+ghost use Rattle.chunk.specs.Bytes.{word, put};
+ghost use Rattle.chunk.specs.Running.{Writes};
+
+use crate::access;
+use crate::access::ChunkOff;
+
+#[derive(Drop)]
+pub struct Heap<'a> {
+    pub image: &'a mut [u64; 72],
+    pub words: &'a mut [u64],
+}
+
+impl Heap<'_> {
+    // Word k of the chunk at c.
+    pub fn get(&self, c: ChunkOff, k: u32) -> u64
+        ensures { result ≡ word wide self.now.words.now c.0 k }
+    {
+        access::get(self.words, c, k)
+    }
+
+    // The chunk that word k of c leads to.
+    pub fn link(&self, c: ChunkOff, k: u32) -> ChunkOff
+        ensures { result.0 ≡ word wide self.now.words.now c.0 k }
+    {
+        access::link(self.words, c, k)
+    }
+
+    pub fn put(&mut self, c: ChunkOff, k: u32, v: u64)
+        ensures { Writes self.old self.new (put wide self.old.words.now c.0 k v) }
+    {
+        access::put(self.words, c, k, v);
+    }
+}
