@@ -1,18 +1,16 @@
-// Port order 5: malloc on the record's image and the arena. The answer is none where there is no room, and then nothing has changed.
-#![tactic(auto)]
+// Port order 5: malloc on a heap at work. There may be no room, and then nothing has changed.
+#![tactic(auto, using(crate::proofs::Laws::laws))]
 
-ghost use Rattle.std.specs.Prelude.{◌≡◌};
-ghost use Rattle.words.specs.Edition.{wide};
-ghost use Rattle.rules.specs.Malloc.{to_dv, to_bin};
-ghost use Rattle.treebin.specs.SearchBytes.{best};
-ghost use Rattle.malloc.specs.MallocBytes.{reply, serve_b, malloc_top, cut_dv, malloc_dv, take_small, take_fuller, take_tree, small_tree, malloc_fuller, malloc_small, malloc_find, malloc_b};
+ghost use Rattle.std.specs.Prelude.{◌≢◌};
+ghost use Rattle.words.specs.Edition.{wide, no_link};
+ghost use Rattle.chunk.specs.Running.{Becomes};
+ghost use Rattle.treebin.specs.SearchBytes.{best, best_above, best_tree};
+ghost use Rattle.malloc.specs.MallocBytes.{settle_b, serve_b, malloc_top, cut_dv, malloc_dv, take_small, take_fuller, take_tree, small_tree, malloc_fuller, malloc_small, malloc_find, malloc_b};
+ghost use Rattle.malloc.specs.Granting.{rest_of, Replies, Grants};
 
 use chunk::access::{ChunkOff, NONE, difference, plus_offset, sum};
-use chunk::heads::{
-    set_inuse_and_pinuse, set_size_and_pinuse_of_free_chunk, set_size_and_pinuse_of_inuse_chunk,
-    set_top_head,
-};
-use chunk::image::{DV, DVSIZE, TOP, TOPSIZE, no_dv, set_dv, set_top, smallbin_at, smallmap};
+use chunk::heap::Heap;
+use chunk::image::Small;
 use index::bin_map::{filled_from, own_or_next};
 use index::sizes::{small_index, small_index2size};
 use smallbin::unlink_first_small_chunk;
@@ -20,164 +18,175 @@ use treebin::bins::{insert_chunk, replace_dv};
 use treebin::search::{Found, best_from, best_tree};
 use treebin::unlink::unlink_large_chunk;
 
-// c, in no bin, is nb + n bytes long: the rest becomes dv, or stays with the block.
-fn split_to_dv(r: &mut [u64; 72], w: &mut [u64], c: ChunkOff, nb: u64, n: u64)
-    ensures image { r.new ≡ (serve_b wide to_dv r.old w.old c.0 nb n).image }
-    ensures words { w.new ≡ (serve_b wide to_dv r.old w.old c.0 nb n).words }
+// Where the rest of a chunk goes: it becomes dv, or it is binned.
+#[derive(Clone, Copy)]
+enum Rest {
+    Dv,
+    Bin,
+}
+
+fn settle(h: &mut Heap, to: Rest, c: ChunkOff, n: u64)
+    ensures { Becomes h.old h.new (settle_b wide (rest_of to) h.old.image.now h.old.words.now c.0 n) }
 {
-    if n < 32 {
-        set_inuse_and_pinuse(w, c, sum(nb, n));
-    } else {
-        let rest = plus_offset(c, nb);
-        set_size_and_pinuse_of_inuse_chunk(w, c, nb);
-        set_size_and_pinuse_of_free_chunk(w, rest, n);
-        replace_dv(r, w, rest, n);
+    match to {
+        Rest::Dv => replace_dv(h, c, n),
+        Rest::Bin => insert_chunk(h, c, n),
     }
 }
 
-// The same, and the rest is binned.
-fn split_to_bin(r: &mut [u64; 72], w: &mut [u64], c: ChunkOff, nb: u64, n: u64)
-    ensures image { r.new ≡ (serve_b wide to_bin r.old w.old c.0 nb n).image }
-    ensures words { w.new ≡ (serve_b wide to_bin r.old w.old c.0 nb n).words }
+// c, in no bin, is nb + n bytes long: a rest of less than 32 stays with the block.
+fn split(h: &mut Heap, to: Rest, c: ChunkOff, nb: u64, n: u64)
+    ensures { Becomes h.old h.new (serve_b wide (rest_of to) h.old.image.now h.old.words.now c.0 nb n) }
 {
     if n < 32 {
-        set_inuse_and_pinuse(w, c, sum(nb, n));
+        h.set_inuse_and_pinuse(c, sum(nb, n));
     } else {
         let rest = plus_offset(c, nb);
-        set_size_and_pinuse_of_inuse_chunk(w, c, nb);
-        set_size_and_pinuse_of_free_chunk(w, rest, n);
-        insert_chunk(r, w, rest, n);
+        h.set_size_and_pinuse_of_inuse_chunk(c, nb);
+        h.set_size_and_pinuse_of_free_chunk(rest, n);
+        settle(h, to, rest, n);
     }
 }
 
-fn malloc_top(r: &mut [u64; 72], w: &mut [u64], nb: u64) -> ChunkOff
-    ensures { reply result.0 r.new w.new ≡ malloc_top wide r.old w.old nb }
+fn malloc_top(h: &mut Heap, nb: u64) -> ChunkOff
+    ensures { Replies h.old h.new result.0 (malloc_top wide h.old.image.now h.old.words.now nb) }
 {
-    let ts = r[TOPSIZE];
+    let ts = h.topsize();
     if ts <= nb {
         return ChunkOff(NONE);
     }
-    let p = ChunkOff(r[TOP]);
+    let p = h.top();
     let rest = plus_offset(p, nb);
-    set_top(r, rest, ts - nb);
-    set_top_head(w, rest, ts - nb);
-    set_size_and_pinuse_of_inuse_chunk(w, p, nb);
+    h.set_top(rest, ts - nb);
+    h.set_top_head(rest, ts - nb);
+    h.set_size_and_pinuse_of_inuse_chunk(p, nb);
     p
 }
 
 // The spare chunk d of s bytes, of which n are left.
-fn cut_dv(r: &mut [u64; 72], w: &mut [u64], d: ChunkOff, s: u64, nb: u64, n: u64) -> ChunkOff
-    ensures { reply result.0 r.new w.new ≡ cut_dv wide r.old w.old d.0 s nb n }
+fn cut_dv(h: &mut Heap, d: ChunkOff, s: u64, nb: u64, n: u64) -> ChunkOff
+    ensures { Replies h.old h.new result.0 (cut_dv wide h.old.image.now h.old.words.now d.0 s nb n) }
 {
     if n < 32 {
-        no_dv(r);
-        set_inuse_and_pinuse(w, d, s);
+        h.no_dv();
+        h.set_inuse_and_pinuse(d, s);
         return d;
     }
     let rest = plus_offset(d, nb);
-    set_dv(r, rest, n);
-    set_size_and_pinuse_of_inuse_chunk(w, d, nb);
-    set_size_and_pinuse_of_free_chunk(w, rest, n);
+    h.set_dv(rest, n);
+    h.set_size_and_pinuse_of_inuse_chunk(d, nb);
+    h.set_size_and_pinuse_of_free_chunk(rest, n);
     d
 }
 
-fn malloc_dv(r: &mut [u64; 72], w: &mut [u64], nb: u64) -> ChunkOff
-    ensures { reply result.0 r.new w.new ≡ malloc_dv wide r.old w.old nb }
+fn malloc_dv(h: &mut Heap, nb: u64) -> ChunkOff
+    ensures { Replies h.old h.new result.0 (malloc_dv wide h.old.image.now h.old.words.now nb) }
 {
-    let s = r[DVSIZE];
+    let s = h.dvsize();
     if s < nb {
-        return malloc_top(r, w, nb);
+        return malloc_top(h, nb);
     }
-    let d = ChunkOff(r[DV]);
-    cut_dv(r, w, d, s, nb, s - nb)
+    let d = h.dv();
+    cut_dv(h, d, s, nb, s - nb)
 }
 
 // The newest of small bin j, whole.
-fn take_small(r: &mut [u64; 72], w: &mut [u64], j: u32) -> ChunkOff
-    ensures { reply result.0 r.new w.new ≡ take_small wide r.old w.old j }
+fn take_small(h: &mut Heap, j: u32) -> ChunkOff
+    ensures { Replies h.old h.new result.0 (take_small wide h.old.image.now h.old.words.now j) }
 {
-    let p = smallbin_at(r, j);
-    unlink_first_small_chunk(r, w, p, j);
-    set_inuse_and_pinuse(w, p, small_index2size(j));
+    let p = h.bin_at::<Small>(j);
+    unlink_first_small_chunk(h, p, j);
+    h.set_inuse_and_pinuse(p, small_index2size(j));
     p
 }
 
 // The newest of a fuller small bin, cut.
-fn take_fuller(r: &mut [u64; 72], w: &mut [u64], j: u32, nb: u64) -> ChunkOff
-    ensures { reply result.0 r.new w.new ≡ take_fuller wide r.old w.old j nb }
+fn take_fuller(h: &mut Heap, j: u32, nb: u64) -> ChunkOff
+    ensures { Replies h.old h.new result.0 (take_fuller wide h.old.image.now h.old.words.now j nb) }
 {
-    let p = smallbin_at(r, j);
-    unlink_first_small_chunk(r, w, p, j);
-    split_to_dv(r, w, p, nb, difference(small_index2size(j), nb));
+    let p = h.bin_at::<Small>(j);
+    unlink_first_small_chunk(h, p, j);
+    split(h, Rest::Dv, p, nb, difference(small_index2size(j), nb));
     p
 }
 
-fn tmalloc_small(r: &mut [u64; 72], w: &mut [u64], nb: u64, b: Found) -> ChunkOff
-    ensures { reply result.0 r.new w.new ≡ small_tree wide r.old w.old nb (best b.at.0 b.rsize) }
+// A find among the trees, cut.
+fn take_tree(h: &mut Heap, to: Rest, nb: u64, b: Found) -> ChunkOff
+    ensures { Replies h.old h.new result.0 (take_tree wide (rest_of to) h.old.image.now h.old.words.now nb (best b.at.0 b.rsize)) }
 {
-    if b.at.0 == NONE {
-        return malloc_top(r, w, nb);
-    }
-    unlink_large_chunk(r, w, b.at);
-    split_to_dv(r, w, b.at, nb, b.rsize);
+    unlink_large_chunk(h, b.at);
+    split(h, to, b.at, nb, b.rsize);
     b.at
 }
 
-fn malloc_fuller(r: &mut [u64; 72], w: &mut [u64], nb: u64) -> ChunkOff
-    ensures { reply result.0 r.new w.new ≡ malloc_fuller wide r.old w.old nb }
+fn tmalloc_small(h: &mut Heap, nb: u64) -> ChunkOff
+    ensures { Replies h.old h.new result.0 (small_tree wide h.old.image.now h.old.words.now nb (best_above wide h.old.image.now h.old.words.now 0 nb)) }
 {
-    let j = filled_from(smallmap(r), small_index(nb));
-    if j < 32 {
-        return take_fuller(r, w, j, nb);
+    match best_from(h, 0, nb) {
+        Some(b) => take_tree(h, Rest::Dv, nb, b),
+        None => malloc_top(h, nb),
     }
-    let b = best_from(r, w, 0, nb);
-    tmalloc_small(r, w, nb, b)
 }
 
-fn malloc_small(r: &mut [u64; 72], w: &mut [u64], nb: u64) -> ChunkOff
-    ensures { reply result.0 r.new w.new ≡ malloc_small wide r.old w.old nb }
+fn malloc_fuller(h: &mut Heap, nb: u64) -> ChunkOff
+    ensures { Replies h.old h.new result.0 (malloc_fuller wide h.old.image.now h.old.words.now nb) }
 {
-    let j = own_or_next(smallmap(r), small_index(nb));
-    if j < 32 {
-        return take_small(r, w, j);
+    match filled_from(h.map::<Small>(), small_index(nb)) {
+        Some(j) => take_fuller(h, j, nb),
+        None => tmalloc_small(h, nb),
     }
-    if nb <= r[DVSIZE] {
-        return malloc_dv(r, w, nb);
-    }
-    malloc_fuller(r, w, nb)
 }
 
-fn tmalloc_large(r: &mut [u64; 72], w: &mut [u64], nb: u64, b: Found) -> ChunkOff
-    ensures { reply result.0 r.new w.new ≡ take_tree wide to_bin r.old w.old nb (best b.at.0 b.rsize) }
+fn malloc_small(h: &mut Heap, nb: u64) -> ChunkOff
+    ensures { Replies h.old h.new result.0 (malloc_small wide h.old.image.now h.old.words.now nb) }
 {
-    unlink_large_chunk(r, w, b.at);
-    split_to_bin(r, w, b.at, nb, b.rsize);
-    b.at
+    if let Some(j) = own_or_next(h.map::<Small>(), small_index(nb)) {
+        return take_small(h, j);
+    }
+    if nb <= h.dvsize() {
+        return malloc_dv(h, nb);
+    }
+    malloc_fuller(h, nb)
 }
 
-// The tree's find, unless dv fits as well or better.
-fn malloc_find(r: &mut [u64; 72], w: &mut [u64], nb: u64, b: Found) -> ChunkOff
-    ensures { reply result.0 r.new w.new ≡ malloc_find wide r.old w.old nb (best b.at.0 b.rsize) }
+// A find of b.rsize bytes too many, unless dv fits as well or better.
+fn malloc_found(h: &mut Heap, nb: u64, b: Found) -> ChunkOff
+    requires { b.at.0 ≢ no_link wide }
+    ensures { Replies h.old h.new result.0 (malloc_find wide h.old.image.now h.old.words.now nb (best b.at.0 b.rsize)) }
 {
-    if b.at.0 == NONE {
-        return malloc_dv(r, w, nb);
-    }
-    let s = r[DVSIZE];
+    let s = h.dvsize();
     if s < nb {
-        return tmalloc_large(r, w, nb, b);
+        return take_tree(h, Rest::Bin, nb, b);
     }
     if b.rsize < s - nb {
-        return tmalloc_large(r, w, nb, b);
+        return take_tree(h, Rest::Bin, nb, b);
     }
-    malloc_dv(r, w, nb)
+    malloc_dv(h, nb)
 }
 
-pub fn malloc_chunk(r: &mut [u64; 72], w: &mut [u64], nb: u64) -> ChunkOff
-    ensures { reply result.0 r.new w.new ≡ malloc_b wide r.old w.old nb }
+fn malloc_large(h: &mut Heap, nb: u64) -> ChunkOff
+    ensures { Replies h.old h.new result.0 (malloc_find wide h.old.image.now h.old.words.now nb (best_tree wide h.old.image.now h.old.words.now nb)) }
+{
+    match best_tree(h, nb) {
+        Some(b) => malloc_found(h, nb, b),
+        None => malloc_dv(h, nb),
+    }
+}
+
+fn malloc(h: &mut Heap, nb: u64) -> ChunkOff
+    ensures { Replies h.old h.new result.0 (malloc_b wide h.old.image.now h.old.words.now nb) }
 {
     if nb < 256 {
-        return malloc_small(r, w, nb);
+        malloc_small(h, nb)
+    } else {
+        malloc_large(h, nb)
     }
-    let b = best_tree(r, w, nb);
-    malloc_find(r, w, nb, b)
+}
+
+// The chunk that holds nb from now on.
+pub fn malloc_chunk(h: &mut Heap, nb: u64) -> Option<ChunkOff>
+    ensures { Grants h.old h.new result (malloc_b wide h.old.image.now h.old.words.now nb) }
+{
+    let p = malloc(h, nb);
+    if p.0 == NONE { None } else { Some(p) }
 }

@@ -1,9 +1,0 @@
-use Rattle.malloc.proofs.Laws.{laws}
-use borrow.Author.Rules.{rules}
-use Rattle.malloc.proofs.cut_dv.Goals as goal
-
-pub returns-then-n-lt32 : goal.returns-then-n-lt32
-returns-then-n-lt32 c = search (laws, rules)
-
-pub returns : goal.returns
-returns c = search (laws, rules)

@@ -1,9 +1,0 @@
-use Rattle.malloc.proofs.Laws.{laws}
-use borrow.Author.Rules.{rules}
-use Rattle.malloc.proofs.malloc_fuller.Goals as goal
-
-pub returns-then-j-lt32 : goal.returns-then-j-lt32
-returns-then-j-lt32 c = search (laws, rules)
-
-pub returns : goal.returns
-returns c = search (laws, rules)

@@ -1,0 +1,24 @@
+-- WHAT A CALL HANDS OUT on a heap at work: a chunk, or nothing where the words level says the link that leads nowhere. Assumes nothing.
+use Rattle.std.specs.Prelude.{◌≡◌, ◌≢◌, ℕ, Option, Some, None}
+use Rattle.words.specs.Edition.{wide, no_link}
+use Rattle.rules.specs.Malloc as rules
+use Rattle.chunk.specs.Running.{Same}
+use Rattle.chunk.specs.declared.access.ChunkOff.{ChunkOff}
+use Rattle.chunk.specs.declared.heap.Heap.{Heap}
+use Rattle.malloc.specs.MallocBytes.{Reply, reply}
+use Rattle.malloc.specs.declared.Rest.{Rest}
+use Rattle.malloc.specs.declared.Rest.TheVariants.{Dv, Bin}
+
+-- where a rest goes
+abbrev pub rest_of : Rest → rules.Rest
+rest_of Dv = rules.to_dv
+rest_of Bin = rules.to_bin
+
+-- the number told, the image and the words are the reply's
+abbrev pub Replies : Heap → Heap → ℕ → Reply → Type 0
+Replies before after answer told = (reply answer after.image.now after.words.now ≡ told) × Same before after
+
+-- the same, of a chunk or none
+abbrev pub Grants : Heap → Heap → Option ChunkOff → Reply → Type 0
+Grants before after None told = Replies before after (no_link wide) told
+Grants before after (Some c) told = (c.0 ≢ no_link wide) × Replies before after c.0 told
