@@ -19,9 +19,9 @@ module _ (r w : List ℕ) (p n : ℕ) (mine : Bool) where
   unfolding away_b
   away_mine_image q e₁ = rw q e₁
 
-  pub away_mine_words : mine ≡ true → w ≡ (away_b wide mine r w p n).words
+  pub away_mine_words : {w₁ : List ℕ} → mine ≡ true → w₁ ≡ w → w₁ ≡ (away_b wide mine r w p n).words
   unfolding away_b
-  away_mine_words q = rw q refl
+  away_mine_words q e₁ = rw q e₁
 
   pub away_bin_image : {r₁ : List ℕ} → mine ≡ false → r₁ ≡ (insert_chunk wide r w p n).image → r₁ ≡ (away_b wide mine r w p n).image
   unfolding away_b

@@ -1,115 +1,98 @@
 // Port order 6: free and dispose_chunk, one function for both. A free chunk before is let go first, then what lies after is looked at.
-#![tactic(auto)]
+#![tactic(auto, using(crate::proofs::Laws::laws))]
 
-ghost use Rattle.std.specs.Prelude.{◌≡◌, true, false};
+ghost use Rattle.std.specs.Prelude.{true, false};
 ghost use Rattle.words.specs.Edition.{wide};
+ghost use Rattle.chunk.specs.Running.{Becomes};
 ghost use Rattle.free.specs.FreeBytes.{away_b, join_top, join_dv, join_binned, forward_b, back_b, dispose_b, free_b};
 
-use chunk::access::{ChunkOff, get, minus_offset, plus_offset, sum};
-use chunk::heads::{
-    cinuse, pinuse, set_free_with_pinuse, set_size_and_pinuse_of_free_chunk, set_top_head, size,
-};
-use chunk::image::{DV, DVSIZE, TOP, TOPSIZE, no_dv, set_dv, set_top};
+use chunk::access::{ChunkOff, minus_offset, plus_offset, sum};
+use chunk::heap::Heap;
 use treebin::bins::{insert_chunk, unlink_chunk};
 
 // mine: the free bytes merged with the spare chunk, and are that from now on.
-fn put_away(r: &mut [u64; 72], w: &mut [u64], p: ChunkOff, n: u64, mine: bool)
-    ensures image { r.new ≡ (away_b wide mine r.old w.old p.0 n).image }
-    ensures words { w.new ≡ (away_b wide mine r.old w.old p.0 n).words }
+fn put_away(h: &mut Heap, p: ChunkOff, n: u64, mine: bool)
+    ensures { Becomes h.old h.new (away_b wide mine h.old.image.now h.old.words.now p.0 n) }
 {
     if mine {
-        set_dv(r, p, n);
+        h.set_dv(p, n);
     } else {
-        insert_chunk(r, w, p, n);
+        insert_chunk(h, p, n);
     }
 }
 
-fn join_top(r: &mut [u64; 72], w: &mut [u64], p: ChunkOff, n: u64)
-    ensures image { r.new ≡ (join_top wide r.old w.old p.0 n).image }
-    ensures words { w.new ≡ (join_top wide r.old w.old p.0 n).words }
+fn join_top(h: &mut Heap, p: ChunkOff, n: u64)
+    ensures { Becomes h.old h.new (join_top wide h.old.image.now h.old.words.now p.0 n) }
 {
-    let ts = sum(r[TOPSIZE], n);
-    set_top(r, p, ts);
-    set_top_head(w, p, ts);
+    let ts = sum(h.topsize(), n);
+    h.set_top(p, ts);
+    h.set_top_head(p, ts);
 }
 
-fn join_dv(r: &mut [u64; 72], w: &mut [u64], p: ChunkOff, n: u64)
-    ensures image { r.new ≡ (join_dv wide r.old w.old p.0 n).image }
-    ensures words { w.new ≡ (join_dv wide r.old w.old p.0 n).words }
+fn join_dv(h: &mut Heap, p: ChunkOff, n: u64)
+    ensures { Becomes h.old h.new (join_dv wide h.old.image.now h.old.words.now p.0 n) }
 {
-    let ds = sum(r[DVSIZE], n);
-    set_dv(r, p, ds);
-    set_size_and_pinuse_of_free_chunk(w, p, ds);
+    let ds = sum(h.dvsize(), n);
+    h.set_dv(p, ds);
+    h.set_size_and_pinuse_of_free_chunk(p, ds);
 }
 
-fn join_binned(r: &mut [u64; 72], w: &mut [u64], p: ChunkOff, n: u64, next: ChunkOff, mine: bool)
-    ensures image { r.new ≡ (join_binned wide mine r.old w.old p.0 n next.0).image }
-    ensures words { w.new ≡ (join_binned wide mine r.old w.old p.0 n next.0).words }
+fn join_binned(h: &mut Heap, p: ChunkOff, n: u64, next: ChunkOff, mine: bool)
+    ensures { Becomes h.old h.new (join_binned wide mine h.old.image.now h.old.words.now p.0 n next.0) }
 {
-    let b = size(w, next);
+    let b = h.size(next);
     let all = sum(n, b);
-    unlink_chunk(r, w, next, b);
-    set_size_and_pinuse_of_free_chunk(w, p, all);
-    put_away(r, w, p, all, mine);
+    unlink_chunk(h, next, b);
+    h.set_size_and_pinuse_of_free_chunk(p, all);
+    put_away(h, p, all, mine);
 }
 
 // p is merged with what lies before it: now what lies after.
-fn dispose_forward(
-    r: &mut [u64; 72],
-    w: &mut [u64],
-    p: ChunkOff,
-    n: u64,
-    next: ChunkOff,
-    mine: bool,
-)
-    ensures image { r.new ≡ (forward_b wide mine r.old w.old p.0 n next.0).image }
-    ensures words { w.new ≡ (forward_b wide mine r.old w.old p.0 n next.0).words }
+fn dispose_forward(h: &mut Heap, p: ChunkOff, n: u64, next: ChunkOff, mine: bool)
+    ensures { Becomes h.old h.new (forward_b wide mine h.old.image.now h.old.words.now p.0 n next.0) }
 {
-    if cinuse(w, next) {
-        set_free_with_pinuse(w, p, n, next);
-        put_away(r, w, p, n, mine);
-    } else if next.0 == r[TOP] {
-        join_top(r, w, p, n);
-    } else if next.0 == r[DV] {
-        join_dv(r, w, p, n);
+    if h.cinuse(next) {
+        h.set_free_with_pinuse(p, n, next);
+        put_away(h, p, n, mine);
+    } else if next.0 == h.top().0 {
+        join_top(h, p, n);
+    } else if next.0 == h.dv().0 {
+        join_dv(h, p, n);
     } else {
-        join_binned(r, w, p, n, next, mine);
+        join_binned(h, p, n, next, mine);
     }
 }
 
 // The chunk before p is free.
-fn dispose_back(r: &mut [u64; 72], w: &mut [u64], p: ChunkOff, n: u64, next: ChunkOff)
-    ensures image { r.new ≡ (back_b wide r.old w.old p.0 n next.0).image }
-    ensures words { w.new ≡ (back_b wide r.old w.old p.0 n next.0).words }
+fn dispose_back(h: &mut Heap, p: ChunkOff, n: u64, next: ChunkOff)
+    ensures { Becomes h.old h.new (back_b wide h.old.image.now h.old.words.now p.0 n next.0) }
 {
-    let b = get(w, p, 0);
+    let b = h.get(p, 0);
     let prev = minus_offset(p, b);
     let all = sum(n, b);
-    if prev.0 == r[DV] {
-        no_dv(r);
-        dispose_forward(r, w, prev, all, next, true);
+    if prev.0 == h.dv().0 {
+        h.no_dv();
+        dispose_forward(h, prev, all, next, true);
     } else {
-        unlink_chunk(r, w, prev, b);
-        dispose_forward(r, w, prev, all, next, false);
+        unlink_chunk(h, prev, b);
+        dispose_forward(h, prev, all, next, false);
     }
 }
 
-pub fn dispose_chunk(r: &mut [u64; 72], w: &mut [u64], p: ChunkOff, n: u64)
-    ensures image { r.new ≡ (dispose_b wide r.old w.old p.0 n).image }
-    ensures words { w.new ≡ (dispose_b wide r.old w.old p.0 n).words }
+pub fn dispose_chunk(h: &mut Heap, p: ChunkOff, n: u64)
+    ensures { Becomes h.old h.new (dispose_b wide h.old.image.now h.old.words.now p.0 n) }
 {
     let next = plus_offset(p, n);
-    if pinuse(w, p) {
-        dispose_forward(r, w, p, n, next, false);
+    if h.pinuse(p) {
+        dispose_forward(h, p, n, next, false);
     } else {
-        dispose_back(r, w, p, n, next);
+        dispose_back(h, p, n, next);
     }
 }
 
-pub fn free_chunk(r: &mut [u64; 72], w: &mut [u64], p: ChunkOff)
-    ensures image { r.new ≡ (free_b wide r.old w.old p.0).image }
-    ensures words { w.new ≡ (free_b wide r.old w.old p.0).words }
+pub fn free_chunk(h: &mut Heap, p: ChunkOff)
+    ensures { Becomes h.old h.new (free_b wide h.old.image.now h.old.words.now p.0) }
 {
-    let n = size(w, p);
-    dispose_chunk(r, w, p, n);
+    let n = h.size(p);
+    dispose_chunk(h, p, n);
 }

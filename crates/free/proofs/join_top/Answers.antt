@@ -1,6 +1,0 @@
-use Rattle.free.proofs.Laws.{laws}
-use borrow.Author.Rules.{rules}
-use Rattle.free.proofs.join_top.Goals as goal
-
-pub returns : goal.returns
-returns c = search (laws, rules)
