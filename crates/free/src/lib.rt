@@ -54,9 +54,9 @@ fn dispose_forward(h: &mut Heap, p: ChunkOff, n: u64, next: ChunkOff, mine: bool
     if h.cinuse(next) {
         h.set_free_with_pinuse(p, n, next);
         put_away(h, p, n, mine);
-    } else if next.0 == h.top().0 {
+    } else if next == h.top() {
         join_top(h, p, n);
-    } else if next.0 == h.dv().0 {
+    } else if next == h.dv() {
         join_dv(h, p, n);
     } else {
         join_binned(h, p, n, next, mine);
@@ -70,7 +70,7 @@ fn dispose_back(h: &mut Heap, p: ChunkOff, n: u64, next: ChunkOff)
     let b = h.get(p, 0);
     let prev = minus_offset(p, b);
     let all = sum(n, b);
-    if prev.0 == h.dv().0 {
+    if prev == h.dv() {
         h.no_dv();
         dispose_forward(h, prev, all, next, true);
     } else {
