@@ -5,5 +5,6 @@ pub mod Plain
 pub mod PlainInuse
 pub mod Held
 pub mod PlainLinks
+pub mod Links
 pub mod Running
 pub mod ChunkReach

@@ -4,6 +4,7 @@
 ghost use Rattle.std.specs.Prelude.{◌≡◌, ◌+◌, ◌-◌};
 ghost use Rattle.words.specs.Edition.{wide};
 ghost use Rattle.chunk.specs.Bytes.{wrap, less, word, put};
+ghost use Rattle.chunk.specs.Links.{LeadsTo};
 
 // Where a chunk starts, and where its owner's words start: two kinds, 16 apart.
 #[derive(Clone, Copy, PartialEq, Eq)]
@@ -11,6 +12,15 @@ pub struct ChunkOff(pub u64);
 
 #[derive(Clone, Copy, PartialEq, Eq)]
 pub struct BlockOff(pub u64);
+
+impl ChunkOff {
+    // This chunk, unless the link leads nowhere.
+    pub fn known(self) -> Option<ChunkOff>
+        ensures { LeadsTo self.0 result }
+    {
+        if self.0 == NONE { None } else { Some(self) }
+    }
+}
 
 // A link to nothing, and a root's parent word.
 pub const NONE: u64 = 0xffff_ffff_ffff_ffff;

@@ -7,13 +7,17 @@ use lib.ListN.{get_or}
 use Rattle.words.specs.Edition.{wide, no_link}
 use Rattle.index.specs.BinMap.{first_from, own_or_next, in_map}
 use Rattle.index.specs.BinMapLaws.{place, no_place}
-use Rattle.std.specs.Prelude.{Some, None}
+use Rattle.std.specs.Prelude.{Option, Some, None}
 use Rattle.rules.specs.Malloc.{Rest, to_dv, to_bin}
 use Rattle.chunk.specs.Bytes.{wrap, less, small, map_of, link_of, set_dv, set_top, used_w, top_w, free_w, take_w, split_w}
 use Rattle.smallbin.specs.SmallBytes.{small_bin_of, unlink_first}
 use Rattle.treebin.specs.TreeBytes.{unlink_large}
 use Rattle.treebin.specs.SearchBytes.{Best, best_above, best_tree}
 use Rattle.treebin.specs.Binning.{insert_chunk, replace_dv}
+use Rattle.chunk.specs.Links.{LeadsTo}
+use Rattle.chunk.specs.declared.access.ChunkOff.{ChunkOff}
+use Rattle.chunk.specs.declared.heap.Heap.{Heap}
+use Rattle.malloc.specs.Granting.{Replies, Grants}
 use Rattle.malloc.specs.MallocBytes.{Reply, reply, settle_b, serve_b, malloc_top, cut_dv, malloc_dv, take_small, take_fuller, take_tree, small_tree, malloc_fuller, malloc_small, malloc_find, malloc_b}
 
 -- ---- a remainder: left with the block, or cut off
@@ -167,4 +171,9 @@ module _ (r w : List ℕ) (nb : ℕ) {a : Reply} where
   unfolding malloc_b
   need_large l e₁ = rw (le-ltb nb 256 l) e₁
 
-pub ruleset laws = (whole_image, whole_words, cut_image, cut_words, top_no, top_yes, dv_no, dv_yes, dv_whole, dv_cut, small_taken, fuller_taken, tree_taken, small_none, small_found, find_none, find_only, find-better, find_dv, fuller_yes, fuller_no, own_yes, own_dv, own_no, need_small, need_large)
+-- what is handed out: the chunk told, unless that is none
+pub granted : (before after : Heap) (told : Reply) (p : ℕ) (o : Option ChunkOff) → LeadsTo p o → Replies before after p told → Grants before after o told
+granted before after told p None e (f, s) = (ap (λ x. reply x after.image.now after.words.now) (sym e) ∙ f, s)
+granted before after told p (Some c) (e, m) (f, s) = ((λ z. m (sym e ∙ z)), (ap (λ x. reply x after.image.now after.words.now) e ∙ f, s))
+
+pub ruleset laws = (granted, whole_image, whole_words, cut_image, cut_words, top_no, top_yes, dv_no, dv_yes, dv_whole, dv_cut, small_taken, fuller_taken, tree_taken, small_none, small_found, find_none, find_only, find-better, find_dv, fuller_yes, fuller_no, own_yes, own_dv, own_no, need_small, need_large)

@@ -187,6 +187,5 @@ fn malloc(h: &mut Heap, nb: u64) -> ChunkOff
 pub fn malloc_chunk(h: &mut Heap, nb: u64) -> Option<ChunkOff>
     ensures { Grants h.old h.new result (malloc_b wide h.old.image.now h.old.words.now nb) }
 {
-    let p = malloc(h, nb);
-    if p.0 == NONE { None } else { Some(p) }
+    malloc(h, nb).known()
 }

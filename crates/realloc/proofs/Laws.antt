@@ -37,13 +37,13 @@ module _ (r w : List ℕ) (p nb n : ℕ) where
   unfolding shrink_b
   shrink_words l e₁ = rw (le-ltb n 32 l) e₁
 
-  pub stay_image : n < 32 → r ≡ (shrink_b wide r w p nb n).image
+  pub stay_image : {r₁ : List ℕ} → n < 32 → r₁ ≡ r → r₁ ≡ (shrink_b wide r w p nb n).image
   unfolding shrink_b
-  stay_image l = rw (lt-ltb n 32 l) refl
+  stay_image l e₁ = rw (lt-ltb n 32 l) e₁
 
-  pub stay_words : n < 32 → w ≡ (shrink_b wide r w p nb n).words
+  pub stay_words : {w₁ : List ℕ} → n < 32 → w₁ ≡ w → w₁ ≡ (shrink_b wide r w p nb n).words
   unfolding shrink_b
-  stay_words l = rw (lt-ltb n 32 l) refl
+  stay_words l e₁ = rw (lt-ltb n 32 l) e₁
 
 module _ (r w : List ℕ) (p all nb : ℕ) where
   pub top_no : all ≤ nb → tried false r w ≡ grow_top wide r w p all nb

@@ -1,5 +1,6 @@
 -- realloc: the words level, and that it follows the rule.
 pub mod ReallocBytes
+pub mod Trying
 pub mod ReallocObeys
 pub mod ResizeReach
 pub mod ReallocReach

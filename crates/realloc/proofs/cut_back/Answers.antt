@@ -1,6 +1,0 @@
-use Rattle.realloc.proofs.Laws.{laws}
-use borrow.Author.Rules.{rules}
-use Rattle.realloc.proofs.cut_back.Goals as goal
-
-pub returns : goal.returns
-returns c = search (laws, rules)

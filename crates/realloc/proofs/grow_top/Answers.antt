@@ -1,9 +1,0 @@
-use Rattle.realloc.proofs.Laws.{laws}
-use borrow.Author.Rules.{rules}
-use Rattle.realloc.proofs.grow_top.Goals as goal
-
-pub returns-then-all-nb : goal.returns-then-all-nb
-returns-then-all-nb c = search (laws, rules)
-
-pub returns : goal.returns
-returns c = search (laws, rules)
