@@ -61,13 +61,13 @@ module _ (r w : List ℕ) (p nb n s : ℕ) (e₁ : n ≡ size_b wide w p) (e₂ 
   unfolding tail_with
   tail_words l e₃ e₄ = e₄ ∙ ap (λ x. (cut_back wide r w p nb x).words) e₃ ∙ sym (rw (lt-ltb s n l) refl) ∙ ap (λ (t : Store). t.words) named
 
-  pub kept_image : n ≤ s → r ≡ (give_tail_b wide r w p nb).image
+  pub kept_image : {r₁ : List ℕ} → n ≤ s → r₁ ≡ r → r₁ ≡ (give_tail_b wide r w p nb).image
   unfolding tail_with
-  kept_image l = sym (rw (le-ltb s n l) refl) ∙ ap (λ (t : Store). t.image) named
+  kept_image l e = e ∙ sym (rw (le-ltb s n l) refl) ∙ ap (λ (t : Store). t.image) named
 
-  pub kept_words : n ≤ s → w ≡ (give_tail_b wide r w p nb).words
+  pub kept_words : {w₁ : List ℕ} → n ≤ s → w₁ ≡ w → w₁ ≡ (give_tail_b wide r w p nb).words
   unfolding tail_with
-  kept_words l = sym (rw (le-ltb s n l) refl) ∙ ap (λ (t : Store). t.words) named
+  kept_words l e = e ∙ sym (rw (le-ltb s n l) refl) ∙ ap (λ (t : Store). t.words) named
 
 -- ---- both
 

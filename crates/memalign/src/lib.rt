@@ -1,13 +1,14 @@
 // Port order 8: memalign. The alignment is of the block's offset, one of 32 to 4,096; any number may be handed in.
-#![tactic(auto)]
+#![tactic(auto, using(crate::proofs::Laws::laws))]
 
 ghost use Rattle.std.specs.Prelude.{◌≡◌, ◌%◌};
 ghost use Rattle.words.specs.Edition.{wide};
-ghost use Rattle.malloc.specs.MallocBytes.{reply};
+ghost use Rattle.chunk.specs.Running.{Becomes};
+ghost use Rattle.malloc.specs.Granting.{Replies, Grants};
 ghost use Rattle.memalign.specs.MemalignBytes.{lead_of, give_lead_b, give_tail_b, trim_b, memalign_b};
 
-use chunk::access::{ChunkOff, NONE, difference, plus_offset, sum, to_mem};
-use chunk::heads::{set_inuse, size};
+use chunk::access::{ChunkOff, difference, plus_offset, sum, to_mem};
+use chunk::heap::Heap;
 use free::dispose_chunk;
 use index::sizes::request2size;
 use malloc::malloc_chunk;
@@ -31,46 +32,41 @@ fn lead_of(p: ChunkOff, alignment: u64) -> u64
     lead
 }
 
-fn give_lead(r: &mut [u64; 72], w: &mut [u64], p: ChunkOff, lead: u64)
-    ensures image { r.new ≡ (give_lead_b wide r.old w.old p.0 lead).image }
-    ensures words { w.new ≡ (give_lead_b wide r.old w.old p.0 lead).words }
+fn give_lead(h: &mut Heap, p: ChunkOff, lead: u64)
+    ensures { Becomes h.old h.new (give_lead_b wide h.old.image.now h.old.words.now p.0 lead) }
 {
-    let n = size(w, p);
-    set_inuse(w, plus_offset(p, lead), difference(n, lead));
-    set_inuse(w, p, lead);
-    dispose_chunk(r, w, p, lead);
+    let n = h.size(p);
+    h.set_inuse(plus_offset(p, lead), difference(n, lead));
+    h.set_inuse(p, lead);
+    dispose_chunk(h, p, lead);
 }
 
-fn give_tail(r: &mut [u64; 72], w: &mut [u64], p: ChunkOff, nb: u64)
-    ensures image { r.new ≡ (give_tail_b wide r.old w.old p.0 nb).image }
-    ensures words { w.new ≡ (give_tail_b wide r.old w.old p.0 nb).words }
+fn give_tail(h: &mut Heap, p: ChunkOff, nb: u64)
+    ensures { Becomes h.old h.new (give_tail_b wide h.old.image.now h.old.words.now p.0 nb) }
 {
-    let n = size(w, p);
+    let n = h.size(p);
     if sum(nb, 32) < n {
-        cut_back(r, w, p, nb, difference(n, nb));
+        cut_back(h, p, nb, difference(n, nb));
     }
 }
 
 // Lead and tail go back.
-fn trim(r: &mut [u64; 72], w: &mut [u64], p: ChunkOff, lead: u64, nb: u64) -> ChunkOff
-    ensures { reply result.0 r.new w.new ≡ trim_b wide r.old w.old p.0 lead nb }
+fn trim(h: &mut Heap, p: ChunkOff, lead: u64, nb: u64) -> ChunkOff
+    ensures { Replies h.old h.new result.0 (trim_b wide h.old.image.now h.old.words.now p.0 lead nb) }
 {
     if lead == 0 {
-        give_tail(r, w, p, nb);
+        give_tail(h, p, nb);
         return p;
     }
     let q = plus_offset(p, lead);
-    give_lead(r, w, p, lead);
-    give_tail(r, w, q, nb);
+    give_lead(h, p, lead);
+    give_tail(h, q, nb);
     q
 }
 
-pub fn memalign_chunk(r: &mut [u64; 72], w: &mut [u64], alignment: u64, nb: u64) -> ChunkOff
-    ensures { reply result.0 r.new w.new ≡ memalign_b wide r.old w.old alignment nb }
+pub fn memalign_chunk(h: &mut Heap, alignment: u64, nb: u64) -> Option<ChunkOff>
+    ensures { Grants h.old h.new result (memalign_b wide h.old.image.now h.old.words.now alignment nb) }
 {
-    let p = malloc_chunk(r, w, request2size(sum(nb, sum(alignment, 24))));
-    if p.0 == NONE {
-        return p;
-    }
-    trim(r, w, p, lead_of(p, alignment), nb)
+    let p = malloc_chunk(h, request2size(sum(nb, sum(alignment, 24))))?;
+    trim(h, p, lead_of(p, alignment), nb).known()
 }
