@@ -28,11 +28,11 @@ abbrev tile : Step → Tile
 tile s = record { size = s.size; used = s.used }
 
 -- what a chunk that is there says
-tile_there : (s : Step) (t : Tile) → tile_of s ≡ Some t → (eqb s.size 0 ≡ false) × (s ≡ step t.size t.used)
+pub tile_there : (s : Step) (t : Tile) → tile_of s ≡ Some t → (eqb s.size 0 ≡ false) × (s ≡ step t.size t.used)
 tile_there s t = by (λ b. eqb s.size 0 ≡ b → pick b None (Some (tile s)) ≡ Some t → (eqb s.size 0 ≡ false) × (s ≡ step t.size t.used))
     (eqb s.size 0) (λ _ z q. cc) (λ _ z q. (z, let e : step s.size s.used ≡ step t.size t.used = cc in e)) refl
 
-no_tile : (s : Step) → tile_of s ≡ None → eqb s.size 0 ≡ true
+pub no_tile : (s : Step) → tile_of s ≡ None → eqb s.size 0 ≡ true
 no_tile s = by (λ b. eqb s.size 0 ≡ b → pick b None (Some (tile s)) ≡ None → eqb s.size 0 ≡ true)
     (eqb s.size 0) (λ _ z q. z) (λ _ z q. cc) refl
 
