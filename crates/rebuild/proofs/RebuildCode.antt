@@ -26,7 +26,7 @@ use Rattle.rebuild.specs.RebuildBytes.{place_of, top_here, seek_top, top_of, ent
 -- a top that is there lies before its end
 here_before : (E : Edition) (w : List ℕ) (end p : ℕ) (pu : Bool) → top_here E w end p pu ≡ true → p < end
 unfolding top_here
-here_before E w end p pu q = ltb-true p end (and_right pu (ltb p end) (and_left (pu && ltb p end) (head_is E w p (end - p)) q))
+here_before E w end p pu q = ltb-true p end (and_right _ (ltb p end) (and_left _ (head_is E w p (end - p)) q))
 
 -- after i turns the walk from here is the walk
 pub record Seeking (E : Edition) (w : List ℕ) (end p : ℕ) (pu : Bool) (i : ℕ) : Type 0 where
@@ -145,14 +145,12 @@ module _ (E : Edition) (top : ℕ) where
 
 -- the top lies before its end
 seek_before : (E : Edition) (w : List ℕ) (end k p : ℕ) (pu : Bool) → (seek_top E w end k p pu ≡ no_link E → ⊥) → seek_top E w end k p pu ≤ end
-unfolding seek_top top_here
+unfolding seek_top
 seek_before E w end zero p pu = λ n. absurd (n refl)
 seek_before E w end (suc k) p pu =
     let st = chunk_at E w p pu end in
-    let a = ltb p end in
-    let b = head_is E w p (end - p) in
     pick_case (λ x. (x ≡ no_link E → ⊥) → x ≤ end) (top_here E w end p pu)
-    (λ q _. let l : p < end = ltb-true p end (and_right pu a (and_left (pu && a) b q)) in omega (arith, l))
+    (λ q _. let l : p < end = here_before E w end p pu q in omega (arith, l))
     (λ _. pick_case (λ x. (x ≡ no_link E → ⊥) → x ≤ end) (eqb st.size 0) (λ _ n. absurd (n refl))
     (λ _. seek_before E w end k (p + st.size) st.used))
 
