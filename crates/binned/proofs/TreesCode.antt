@@ -7,10 +7,10 @@ use mathlib.Core.Path.{◌≡◌, refl, sym, ap, ◌∙◌}
 use Prim.Native.Nat.{ℕ, zero, suc, ◌+◌, ◌-◌, ◌*◌, ◌/◌, ◌%◌, ◌^◌, ◌≤◌, ◌<◌}
 use native.Mathlib.Omega.{arith}
 use lib.Dec.{eqb, ltb, leb}
-use lib.ListN.{length, get_or, set, replicate}
+use lib.ListN.{length, get_or, set}
 use lib.Pow.{pow_mono}
 use lib.Seq.{get_or-set_same, set-get_or, set_out, set-set}
-use borrow.Author.Tests.{eq-eqb, ne_eqb, eqb-true, not-true, not-false}
+use borrow.Author.Tests.{eq-eqb, ne_eqb, eqb-true}
 use Rattle.words.specs.Logic.{pick, pick_case, lt_or_le, false-true}
 use Rattle.words.specs.Edition.{wide, root_mark}
 use Rattle.index.specs.Bit.{bit}
@@ -20,7 +20,7 @@ use Rattle.index.specs.TreeBin.{min_size}
 use Rattle.tries.specs.Bits.{wid, wid_pow}
 use Rattle.rules.specs.BinOf.{trie_low, low_bytes}
 use Rattle.chunk.specs.Bytes.{word, tree, link_of}
-use Rattle.marks.specs.Marks.{mark_words, holdable, mark_bit, lacks_mark, set_mark, drop_mark, Checked, checked, and_then, take_mark, no_marks, turns, answer}
+use Rattle.marks.specs.Marks.{holdable, mark_bit, lacks_mark, set_mark, drop_mark, Checked, checked, and_then, take_mark, no_marks, turns, answer}
 use Rattle.binned.specs.BinsBytes.{bit_ok, childless, ring_ok, node_size, size_fits, node_fits, node_ok, tree_ok, tree_bin_ok, tree_bins_ok}
 use Rattle.binned.proofs.SmallCode.{Binned, bins_start, bins_end, bins_bad, bins_turn}
 
@@ -138,30 +138,11 @@ module _ (w : List ℕ) (i k lo t up : ℕ) (s m : List ℕ) where
               e₉ ∙ ap (drop_mark wide s₃) e₁ ∙ ap (λ x. drop_mark wide x (node_size wide w t)) (e₈ ∙ e₅ ∙ above)
               ∙ drop_set s (node_size wide w t) (node_new w i k lo t up s m m₁ (ap (λ v. checked v m₁) (sym q) ∙ e))
 
--- the sizes below a member fit as its own do
-module _ (lo k : ℕ) (l : k ≤ 24) (b : lo + 8 * wid k ≤ 2 ^ 40) (z : k ≡ 0 → ⊥) where
-  half : wid k ≡ wid (k - 1) + wid (k - 1)
-  half = go k z
-    where
-      go : (k : ℕ) → (k ≡ 0 → ⊥) → wid k ≡ wid (k - 1) + wid (k - 1)
-      go zero z = absurd (z refl)
-      go (suc k) z = ap (λ x. wid x + wid x) (let q : k ≡ suc k - 1 = omega arith in q)
-
-  pub lower_fits : (k - 1 ≤ 24) × (lo + 8 * wid (k - 1) ≤ 2 ^ 40)
-  lower_fits = (omega arith, omega (arith, half))
-
-  pub upper_fits : {h : ℕ} → h ≡ 8 * wid (k - 1) → (k - 1 ≤ 24) × (lo + h + 8 * wid (k - 1) ≤ 2 ^ 40)
-  upper_fits e = (omega arith, omega (arith, half))
-
 -- ---- the tree bins
 
 module _ (r w s : List ℕ) (i : ℕ) (m : List ℕ) {t : ℕ} (e : t ≡ link_of tree r i) {x : Bool} (e₁ : x ≡ bit_ok wide (get_or r 1 0) i t) where
   told : x ≡ bit_ok wide (get_or r 1 0) i (link_of tree r i)
   told = e₁ ∙ ap (bit_ok wide (get_or r 1 0) i) e
-
-  pub tree_bit : x ≡ false → checked false m ≡ tree_bin_ok wide r w s i m
-  unfolding tree_bin_ok
-  tree_bit q = sym (rw (sym told ∙ q) refl)
 
   pub tree_root : {lo : ℕ} {y : Bool} {m₁ : List ℕ} → x ≡ true → i < 32 → lo ≡ min_size (i % 32) → checked y m₁ ≡ tree_ok wide w i (i / 2 + 4) lo t (root_mark wide) s m → checked y m₁ ≡ tree_bin_ok wide r w s i m
   unfolding tree_bin_ok
@@ -186,9 +167,8 @@ pub record Trees (r w m₀ : List ℕ) (i : ℕ) (m s : List ℕ) : Type 0 where
   pub bins : Binned (tree_bin_ok wide r w no_marks) m₀ i m
   pub none : s ≡ no_marks
 
-pub trees_start : (r w m : List ℕ) → Trees r w m 0 m (replicate mark_words 0)
-unfolding no_marks
-trees_start r w m = record { bins = bins_start (tree_bin_ok wide r w no_marks) m; none = refl }
+pub trees_start : (r w m : List ℕ) {s : List ℕ} → s ≡ no_marks → Trees r w m 0 m s
+trees_start r w m e = record { bins = bins_start (tree_bin_ok wide r w no_marks) m; none = e }
 
 module _ (r w m₀ : List ℕ) (i : ℕ) (m s : List ℕ) (v : Trees r w m₀ i m s) where
   pub trees_end : 32 ≤ i → checked true m ≡ tree_bins_ok wide r w m₀
@@ -206,4 +186,4 @@ module _ (r w m₀ : List ℕ) (i : ℕ) (m s : List ℕ) (v : Trees r w m₀ i 
     pub trees_turn : {s₁ : List ℕ} → x ≡ true → (x ≡ true → s₁ ≡ s) → Trees r w m₀ (i + 1) m₁ s₁
     trees_turn q f = record { bins = bins_turn (tree_bin_ok wide r w no_marks) m₀ i m v.bins l here q; none = f q ∙ v.none }
 
-pub ruleset laws = (not-true, not-false, tree_none, tree_node, tree_last, tree_lower, tree_upper, tree_kept, lower_fits, upper_fits, tree_bit, tree_root, root-fits, trees_start, trees_end, trees_bad, trees_turn)
+pub ruleset laws = (root-fits, trees_start)

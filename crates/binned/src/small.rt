@@ -6,10 +6,11 @@ ghost use Rattle.binned.specs.BinsBytes.{dv_ok, bit_ok, linked_ok, list_ok, smal
 
 use chunk::access::{ChunkOff, NONE, get, link};
 use chunk::image::{DV, DVSIZE, SMALLMAP, smallbin_at};
-use marks::{MARK_WORDS, TURNS};
+use marks::{Marks, TURNS};
 use tiles::head_is;
 
-pub fn dv_ok(r: &[u64; 72], w: &[u64], m: &mut [u64; MARK_WORDS]) -> bool
+#[tactic(auto, using(marks::specs::Marks::answer), unfolding(crate::specs::BinsBytes::dv_ok))]
+pub fn dv_ok(r: &[u64; 72], w: &[u64], m: &mut Marks) -> bool
     ensures { checked result m.new ≡ dv_ok wide r.now w.now m.old }
 {
     let dv = r[DV];
@@ -17,13 +18,11 @@ pub fn dv_ok(r: &[u64; 72], w: &[u64], m: &mut [u64; MARK_WORDS]) -> bool
     if dv == NONE {
         return n == 0;
     }
-    if !marks::take(m, dv) {
-        return false;
-    }
-    head_is(w, ChunkOff(dv), n)
+    m.take(dv) && head_is(w, ChunkOff(dv), n)
 }
 
 // Bit i of a map is set exactly where the bin's link is something.
+#[tactic(auto, unfolding(crate::specs::BinsBytes::bit_ok))]
 pub fn bit_ok(map: u64, i: u32, c: ChunkOff) -> bool
     ensures { result ≡ bit_ok wide map i c.0 }
 {
@@ -35,55 +34,45 @@ pub fn bit_ok(map: u64, i: u32, c: ChunkOff) -> bool
 fn linked_ok(w: &[u64], c: ChunkOff, n: u64, newer: u64) -> bool
     ensures { result ≡ linked_ok wide w.now c.0 n newer }
 {
-    if !head_is(w, c, n) {
-        return false;
-    }
-    get(w, c, 3) == newer
+    head_is(w, c, n) && get(w, c, 3) == newer
 }
 
 // The list from the newest, each of n bytes.
-fn list_ok(w: &[u64], m: &mut [u64; MARK_WORDS], newest: ChunkOff, n: u64) -> bool
+#[tactic(auto, using(crate::proofs::SmallCode::laws))]
+fn list_ok(w: &[u64], m: &mut Marks, newest: ChunkOff, n: u64) -> bool
     ensures { checked result m.new ≡ list_ok wide w.now n turns newest.0 (no_link wide) m.old }
 {
     let mut newer = NONE;
     let mut c = newest;
-    let mut left = TURNS;
-    while left > 0 {
+    for _ in 0..TURNS {
         if c.0 == NONE {
             return true;
         }
-        if !marks::take(m, c.0) {
-            return false;
-        }
-        if !linked_ok(w, c, n, newer) {
+        if !m.take(c.0) || !linked_ok(w, c, n, newer) {
             return false;
         }
         newer = c.0;
         c = link(w, c, 2);
-        left -= 1;
     }
     false
 }
 
-fn small_bin_ok(r: &[u64; 72], w: &[u64], m: &mut [u64; MARK_WORDS], i: u32) -> bool
+#[tactic(auto, unfolding(crate::specs::BinsBytes::small_bin_ok))]
+fn small_bin_ok(r: &[u64; 72], w: &[u64], m: &mut Marks, i: u32) -> bool
     ensures { checked result m.new ≡ small_bin_ok wide r.now w.now i m.old }
 {
     let c = smallbin_at(r, i);
-    if !bit_ok(r[SMALLMAP], i, c) {
-        return false;
-    }
-    list_ok(w, m, c, 8 * (i as u64))
+    bit_ok(r[SMALLMAP], i, c) && list_ok(w, m, c, 8 * (i as u64))
 }
 
-pub fn small_bins_ok(r: &[u64; 72], w: &[u64], m: &mut [u64; MARK_WORDS]) -> bool
+#[tactic(auto, using(crate::proofs::SmallCode::laws))]
+pub fn small_bins_ok(r: &[u64; 72], w: &[u64], m: &mut Marks) -> bool
     ensures { checked result m.new ≡ small_bins_ok wide r.now w.now m.old }
 {
-    let mut i: u32 = 0;
-    while i < 32 {
+    for i in 0..32 {
         if !small_bin_ok(r, w, m, i) {
             return false;
         }
-        i += 1;
     }
     true
 }

@@ -10,62 +10,60 @@ use crate::small::bit_ok;
 use chunk::access::{ChunkOff, NONE, ROOT, get, link};
 use chunk::image::{TREEMAP, treebin_at};
 use index::tree_bin::min_size_for_tree_index;
-use marks::{MARK_WORDS, TURNS};
+use marks::{Marks, TURNS};
 use tiles::head_is;
+
+// Where a tree may stand: below `up`, in a bin, with sizes of [low, low + 2^bits words).
+#[derive(Clone, Copy)]
+struct Place {
+    up: u64,
+    bin: u32,
+    low: u64,
+    bits: u32,
+    ghost few: { bits ≤ 24 },
+    ghost end: { low + 8 * wid bits ≤ 2 ^ 40 },
+}
 
 fn childless(w: &[u64], c: ChunkOff) -> bool
     ensures { result ≡ childless wide w.now c.0 }
 {
-    if get(w, c, 4) != NONE {
-        return false;
-    }
-    get(w, c, 5) == NONE
+    get(w, c, 4) == NONE && get(w, c, 5) == NONE
 }
 
 // Another member c of a ring of n bytes in bin i, behind last.
+#[tactic(auto, unfolding(crate::specs::BinsBytes::member_ok))]
 fn member_ok(w: &[u64], c: ChunkOff, i: u32, n: u64, last: u64) -> bool
     ensures { result ≡ member_ok wide w.now i n last c.0 }
 {
-    if !head_is(w, c, n) {
-        return false;
-    }
-    if get(w, c, 7) != i as u64 {
-        return false;
-    }
-    if get(w, c, 2) != last {
-        return false;
-    }
-    if get(w, c, 6) != NONE {
-        return false;
-    }
-    childless(w, c)
+    head_is(w, c, n)
+        && get(w, c, 7) == i as u64
+        && get(w, c, 2) == last
+        && get(w, c, 6) == NONE
+        && childless(w, c)
 }
 
 // The ring of t, of n bytes each; it closes at t.
-fn ring_ok(w: &[u64], m: &mut [u64; MARK_WORDS], t: ChunkOff, i: u32, n: u64) -> bool
+#[tactic(auto, using(crate::proofs::RingsCode::laws))]
+fn ring_ok(w: &[u64], m: &mut Marks, t: ChunkOff, i: u32, n: u64) -> bool
     ensures { checked result m.new ≡ ring_ok wide w.now i n t.0 turns (word wide w.now t.0 3) t.0 m.old }
 {
     let mut last = t.0;
     let mut c = link(w, t, 3);
-    let mut left = TURNS;
-    while left > 0 {
+    for _ in 0..TURNS {
         if c.0 == t.0 {
             return get(w, t, 2) == last;
         }
-        if !marks::take(m, c.0) {
-            return false;
-        }
-        if !member_ok(w, c, i, n, last) {
+        if !m.take(c.0) || !member_ok(w, c, i, n, last) {
             return false;
         }
         last = c.0;
         c = link(w, c, 3);
-        left -= 1;
     }
     false
 }
 
 // The bytes of 2^k words.
+#[tactic(auto, using(crate::proofs::RingsCode::width_is))]
 fn width(k: u32) -> u64
     requires { k ≤ 24 }
     ensures { result ≡ 8 * wid k }
@@ -73,147 +71,101 @@ fn width(k: u32) -> u64
     8 << k
 }
 
-// h, a head, says a size of [lo, lo + 2^k words) that no member above has.
-fn size_fits(sizes: &[u64; MARK_WORDS], h: u64, lo: u64, k: u32) -> bool
-    requires { k ≤ 24 }
-    ensures { result ≡ size_fits wide h k lo sizes.now }
+// h, a head, says a size of this place that no member above has.
+fn size_fits(sizes: &Marks, h: u64, at: Place) -> bool
+    ensures { result ≡ size_fits wide h at.bits at.low sizes.now }
 {
-    if h <= lo {
-        return false;
-    }
-    if h - lo > width(k) {
-        return false;
-    }
-    marks::lacks(sizes, h - 1)
+    h > at.low && h - at.low <= width(at.bits) && sizes.lacks(h - 1)
 }
 
-// The tree member t fits below up.
-fn node_fits(
-    w: &[u64],
-    sizes: &[u64; MARK_WORDS],
-    t: ChunkOff,
-    up: u64,
-    i: u32,
-    lo: u64,
-    k: u32,
-) -> bool
-    requires { k ≤ 24 }
-    ensures { result ≡ node_fits wide w.now i k lo t.0 up sizes.now }
+// The tree member t fits there.
+#[tactic(auto, unfolding(crate::specs::BinsBytes::node_fits))]
+fn node_fits(w: &[u64], sizes: &Marks, t: ChunkOff, at: Place) -> bool
+    ensures { result ≡ node_fits wide w.now at.bin at.bits at.low t.0 at.up sizes.now }
 {
-    if !size_fits(sizes, get(w, t, 1), lo, k) {
-        return false;
-    }
-    if get(w, t, 6) != up {
-        return false;
-    }
-    get(w, t, 7) == i as u64
+    size_fits(sizes, get(w, t, 1), at) && get(w, t, 6) == at.up && get(w, t, 7) == at.bin as u64
 }
 
 // The size that a tree member's head says.
 fn node_size(w: &[u64], t: ChunkOff) -> u64
     ensures { result ≡ node_size wide w.now t.0 }
 {
-    let h = get(w, t, 1);
-    if h == 0 { 0 } else { h - 1 }
+    get(w, t, 1).saturating_sub(1)
 }
 
 // A tree member with its ring.
-fn node_ok(
-    w: &[u64],
-    m: &mut [u64; MARK_WORDS],
-    sizes: &[u64; MARK_WORDS],
-    t: ChunkOff,
-    up: u64,
-    i: u32,
-    lo: u64,
-    k: u32,
-) -> bool
-    requires { k ≤ 24 }
-    ensures { checked result m.new ≡ node_ok wide w.now i k lo t.0 up sizes.now m.old }
+#[tactic(auto, unfolding(crate::specs::BinsBytes::node_ok))]
+fn node_ok(w: &[u64], m: &mut Marks, sizes: &Marks, t: ChunkOff, at: Place) -> bool
+    ensures { checked result m.new ≡ node_ok wide w.now at.bin at.bits at.low t.0 at.up sizes.now m.old }
 {
-    if !marks::take(m, t.0) {
-        return false;
-    }
-    if !node_fits(w, sizes, t, up, i, lo, k) {
-        return false;
-    }
-    ring_ok(w, m, t, i, node_size(w, t))
+    m.take(t.0) && node_fits(w, sizes, t, at) && ring_ok(w, m, t, at.bin, node_size(w, t))
 }
 
-// The tree at t: sizes of [lo, lo + 2^k words), child 0 the lower half, child 1 the upper; k falls, so the depth is at most 19.
+// The tree at t: child 0 has the lower half of the sizes, child 1 the upper; the bits fall, so the depth is at most 19.
 // sizes: the sizes of the members above t.
-fn tree_ok(
-    w: &[u64],
-    m: &mut [u64; MARK_WORDS],
-    sizes: &mut [u64; MARK_WORDS],
-    t: ChunkOff,
-    up: u64,
-    i: u32,
-    lo: u64,
-    k: u32,
-) -> bool
-    requires { (k ≤ 24) × (lo + 8 * wid k ≤ 2 ^ 40) }
-    ensures marks { checked result m.new ≡ tree_ok wide w.now i k lo t.0 up sizes.old m.old }
+fn tree_ok(w: &[u64], m: &mut Marks, sizes: &mut Marks, t: ChunkOff, at: Place) -> bool
+    ensures marks { checked result m.new ≡ tree_ok wide w.now at.bin at.bits at.low t.0 at.up sizes.old m.old }
     ensures sizes { result ≡ true → sizes.new ≡ sizes.old }
 {
     if t.0 == NONE {
         return true;
     }
-    if !node_ok(w, m, sizes, t, up, i, lo, k) {
+    if !node_ok(w, m, sizes, t, at) {
         return false;
     }
-    if k == 0 {
+    if at.bits == 0 {
         return childless(w, t);
     }
+    let bits = at.bits - 1;
+    let lower = Place {
+        up: t.0,
+        bin: at.bin,
+        low: at.low,
+        bits,
+    };
+    let upper = Place {
+        up: t.0,
+        bin: at.bin,
+        low: at.low + width(bits),
+        bits,
+    };
     let n = node_size(w, t);
-    marks::set(sizes, n);
-    if !tree_ok(w, m, sizes, link(w, t, 4), t.0, i, lo, k - 1) {
+    sizes.insert(n);
+    if !tree_ok(w, m, sizes, link(w, t, 4), lower) {
         return false;
     }
-    if !tree_ok(w, m, sizes, link(w, t, 5), t.0, i, lo + width(k - 1), k - 1) {
+    if !tree_ok(w, m, sizes, link(w, t, 5), upper) {
         return false;
     }
-    marks::drop(sizes, n);
+    sizes.remove(n);
     true
 }
 
-fn tree_bin_ok(
-    r: &[u64; 72],
-    w: &[u64],
-    m: &mut [u64; MARK_WORDS],
-    sizes: &mut [u64; MARK_WORDS],
-    i: u32,
-) -> bool
+#[tactic(auto, using(crate::proofs::TreesCode::laws), unfolding(crate::specs::BinsBytes::tree_bin_ok))]
+fn tree_bin_ok(r: &[u64; 72], w: &[u64], m: &mut Marks, sizes: &mut Marks, i: u32) -> bool
     requires { i < 32 }
     ensures marks { checked result m.new ≡ tree_bin_ok wide r.now w.now sizes.old i m.old }
     ensures sizes { result ≡ true → sizes.new ≡ sizes.old }
 {
     let t = treebin_at(r, i);
-    if !bit_ok(r[TREEMAP], i, t) {
-        return false;
-    }
-    tree_ok(
-        w,
-        m,
-        sizes,
-        t,
-        ROOT,
-        i,
-        min_size_for_tree_index(i),
-        i / 2 + 4,
-    )
+    let root = Place {
+        up: ROOT,
+        bin: i,
+        low: min_size_for_tree_index(i),
+        bits: i / 2 + 4,
+    };
+    bit_ok(r[TREEMAP], i, t) && tree_ok(w, m, sizes, t, root)
 }
 
-pub fn tree_bins_ok(r: &[u64; 72], w: &[u64], m: &mut [u64; MARK_WORDS]) -> bool
+#[tactic(auto, using(crate::proofs::TreesCode::laws))]
+pub fn tree_bins_ok(r: &[u64; 72], w: &[u64], m: &mut Marks) -> bool
     ensures { checked result m.new ≡ tree_bins_ok wide r.now w.now m.old }
 {
-    let mut sizes = [0u64; MARK_WORDS];
-    let mut i: u32 = 0;
-    while i < 32 {
+    let mut sizes = Marks::new();
+    for i in 0..32 {
         if !tree_bin_ok(r, w, m, &mut sizes, i) {
             return false;
         }
-        i += 1;
     }
     true
 }

@@ -1,7 +1,7 @@
 -- SETS OF GRANULES. A granule is 2 words of the edition, and an offset in bytes names one where it is a multiple of that; a set is a bitmap, a list
 -- of `mark_words` numbers of 64 bits, bit g % 64 of number g / 64 for granule g. What is no granule, or lies past the set, is in no set, and
 -- nothing changes for it. Plain arithmetic, for all inputs. Assumes nothing.
-use Rattle.std.specs.Prelude.{Bool, true, false, ◌&&◌, List, ◌≡◌, ℕ, zero, suc, ◌+◌, ◌*◌, ◌/◌, ◌%◌, eqb, ltb, get_or, set, replicate}
+use Rattle.std.specs.Prelude.{Bool, true, false, ◌&&◌, List, ◌≡◌, ℕ, zero, suc, ◌+◌, ◌*◌, ◌/◌, ◌%◌, eqb, ltb, get_or, set, replicate, Option, Some, None}
 use Rattle.std.proofs.Common.{sym, ap, ◌∙◌}
 use Rattle.words.specs.Logic.{pick}
 use Rattle.words.specs.Edition.{Edition, W}
@@ -29,6 +29,10 @@ mark_word e m off = get_or m (granule e off / 64) 0
 
 abbrev pub mark_bit : Edition → List ℕ → ℕ → ℕ
 mark_bit e m off = bit (granule e off % 64) (mark_word e m off)
+
+-- the bit of a granule that a set can hold; none at another offset
+unfoldable pub held_bit : Edition → List ℕ → ℕ → Option ℕ
+held_bit e m off = pick (holdable e off) (Some (mark_bit e m off)) None
 
 -- is it in the set; is it a granule that is not
 unfoldable pub has_mark : Edition → List ℕ → ℕ → Bool

@@ -1,109 +1,130 @@
-// A set of granules of 16 bytes, a bit each, in a lent bitmap. An offset that is no granule, or lies past the set, is in no set, and nothing
-// changes for it.
+// A set of granules of 16 bytes, a bit each, in a bitmap of fixed size. An offset that is no granule, or lies past the set, is in no set,
+// and nothing changes for it.
 #![tactic(auto)]
 
 ghost use Rattle.std.specs.Prelude.{◌≡◌, ◌%◌};
 ghost use Rattle.words.specs.Edition.{wide};
-ghost use Rattle.index.specs.Bit.{bit};
 ghost use Rattle.index.specs.BinMap.{mark, clear};
-ghost use Rattle.marks.specs.Marks.{holdable, has_mark, lacks_mark, set_mark, drop_mark, checked, take_mark, is_empty};
+ghost use Rattle.marks.specs.Marks.{holdable, held_bit, has_mark, lacks_mark, set_mark, drop_mark, checked, take_mark, no_marks, is_empty};
+
+use std::marker::Model;
 
 // The size of every set: a granule for each 2 words of the largest arena.
-pub const MARK_WORDS: usize = 64;
+const MARK_WORDS: usize = 64;
 
 const GRANULES: u64 = 64 * (MARK_WORDS as u64);
 
 // The bound of every walk: more turns than a set has granules.
 pub const TURNS: u32 = 64 * (MARK_WORDS as u32) + 1;
 
+// A contract sees a set as the list of its words.
+#[derive(Drop)]
+pub struct Marks {
+    words: [u64; MARK_WORDS],
+}
+
+impl Model for Marks {
+    ghost use Rattle.std.specs.Prelude.{List, ℕ};
+
+    ghost Value = { List ℕ };
+
+    ghost view = { λ m. m.words };
+}
+
+#[tactic(auto, unfolding(crate::specs::Marks::holdable))]
 fn holdable(off: u64) -> bool
     ensures { result ≡ holdable wide off }
 {
-    if off % 16 != 0 {
-        return false;
-    }
-    off / 16 < GRANULES
+    off % 16 == 0 && off / 16 < GRANULES
 }
 
-fn bit_of(n: u64, i: u64) -> u64
-    ensures { result ≡ bit (i % 64) n }
-{
-    (n >> (i % 64)) % 2
-}
-
+#[tactic(auto, using(crate::proofs::MarksCode::with_bit))]
 fn with_bit(n: u64, i: u64) -> u64
     ensures { result ≡ mark (i % 64) n }
 {
     n | (1 << (i % 64))
 }
 
+#[tactic(auto, using(crate::proofs::MarksCode::without_bit))]
 fn without_bit(n: u64, i: u64) -> u64
     ensures { result ≡ clear (i % 64) n }
 {
     n & !(1 << (i % 64))
 }
 
-pub fn has(m: &[u64; MARK_WORDS], off: u64) -> bool
-    ensures { result ≡ has_mark wide m.now off }
-{
-    if !holdable(off) {
-        return false;
+impl Marks {
+    #[tactic(auto, unfolding(crate::specs::Marks::no_marks))]
+    pub fn new() -> Marks
+        ensures { result ≡ no_marks }
+    {
+        Marks {
+            words: [0; MARK_WORDS],
+        }
     }
-    let k = (off / 16 / 64) as usize;
-    bit_of(m[k], off / 16) == 1
-}
 
-// It is a granule, and not in the set.
-pub fn lacks(m: &[u64; MARK_WORDS], off: u64) -> bool
-    ensures { result ≡ lacks_mark wide m.now off }
-{
-    if !holdable(off) {
-        return false;
+    // The bit of a granule that the set can hold.
+    #[tactic(auto, using(crate::proofs::MarksCode::in_set_lem), unfolding(crate::specs::Marks::held_bit))]
+    fn bit(&self, off: u64) -> Option<u64>
+        ensures { result ≡ held_bit wide self.now off }
+    {
+        if holdable(off) {
+            let k = (off / 16 / 64) as usize;
+            Some((self.words[k] >> (off / 16 % 64)) % 2)
+        } else {
+            None
+        }
     }
-    let k = (off / 16 / 64) as usize;
-    bit_of(m[k], off / 16) == 0
-}
 
-pub fn set(m: &mut [u64; MARK_WORDS], off: u64)
-    ensures { m.new ≡ set_mark wide m.old off }
-{
-    if holdable(off) {
-        let k = (off / 16 / 64) as usize;
-        let n = m[k];
-        m[k] = with_bit(n, off / 16);
+    #[tactic(auto, unfolding(crate::specs::Marks::has_mark, crate::specs::Marks::held_bit))]
+    pub fn has(&self, off: u64) -> bool
+        ensures { result ≡ has_mark wide self.now off }
+    {
+        self.bit(off) == Some(1)
     }
-}
 
-pub fn drop(m: &mut [u64; MARK_WORDS], off: u64)
-    ensures { m.new ≡ drop_mark wide m.old off }
-{
-    if holdable(off) {
-        let k = (off / 16 / 64) as usize;
-        let n = m[k];
-        m[k] = without_bit(n, off / 16);
+    // It is a granule, and not in the set.
+    #[tactic(auto, unfolding(crate::specs::Marks::lacks_mark, crate::specs::Marks::held_bit))]
+    pub fn lacks(&self, off: u64) -> bool
+        ensures { result ≡ lacks_mark wide self.now off }
+    {
+        self.bit(off) == Some(0)
     }
-}
 
-// Takes it out of the set; false where it is not in it.
-pub fn take(m: &mut [u64; MARK_WORDS], off: u64) -> bool
-    ensures { checked result m.new ≡ take_mark wide m.old off }
-{
-    if !has(m, off) {
-        return false;
+    #[tactic(auto, using(crate::proofs::MarksCode::in_set_lem), unfolding(crate::specs::Marks::set_mark))]
+    pub fn insert(&mut self, off: u64)
+        ensures { self.new ≡ set_mark wide self.old off }
+    {
+        if holdable(off) {
+            let k = (off / 16 / 64) as usize;
+            self.words[k] = with_bit(self.words[k], off / 16);
+        }
     }
-    drop(m, off);
-    true
-}
 
-pub fn is_empty(m: &[u64; MARK_WORDS]) -> bool
-    ensures { result ≡ is_empty m.now }
-{
-    let mut i: usize = 0;
-    while i < MARK_WORDS {
-        if m[i] != 0 {
+    #[tactic(auto, using(crate::proofs::MarksCode::in_set_lem), unfolding(crate::specs::Marks::drop_mark))]
+    pub fn remove(&mut self, off: u64)
+        ensures { self.new ≡ drop_mark wide self.old off }
+    {
+        if holdable(off) {
+            let k = (off / 16 / 64) as usize;
+            self.words[k] = without_bit(self.words[k], off / 16);
+        }
+    }
+
+    // Takes it out of the set; false where it is not in it.
+    #[tactic(auto, unfolding(crate::specs::Marks::take_mark))]
+    pub fn take(&mut self, off: u64) -> bool
+        ensures { checked result self.new ≡ take_mark wide self.old off }
+    {
+        if !self.has(off) {
             return false;
         }
-        i += 1;
+        self.remove(off);
+        true
     }
-    true
+
+    pub fn is_empty(&self) -> bool
+        ensures { result ≡ is_empty self.now }
+    {
+        self.words.iter().all(|x| *x == 0)
+    }
 }

@@ -2,7 +2,7 @@
 -- it makes and the words it leaves, for all inputs. One walk of the heads finds the top; a second enters the free chunks into their bins,
 -- from the lowest offset up. Both walks have a bound, reads are total, sums of the second wrap. Places and sizes are bytes. Both
 -- editions. Assumes nothing.
-use Rattle.std.specs.Prelude.{Bool, true, ◌&&◌, List, ◌∷◌, ℕ, zero, suc, ◌+◌, ◌-◌, ◌*◌, eqb, ltb, length, replicate}
+use Rattle.std.specs.Prelude.{Bool, true, ◌&&◌, List, ◌∷◌, ℕ, zero, suc, ◌+◌, ◌-◌, ◌*◌, eqb, ltb, length, replicate, Option, Some, None, Result, Ok, Err}
 use Rattle.words.specs.Logic.{pick}
 use Rattle.words.specs.Edition.{Edition, W, no_link}
 use Rattle.chunk.specs.Bytes.{Store, store, wrap, word, size_b, cinuse_b}
@@ -10,8 +10,14 @@ use Rattle.treebin.specs.Binning.{insert_chunk}
 use Rattle.marks.specs.Marks.{turns}
 use Rattle.tiles.specs.TilesBytes.{head_is, chunk_at}
 use Rattle.sound.specs.SoundBytes.{count_ok}
+use Rattle.rebuild.specs.declared.RebuildError.{RebuildError}
+use Rattle.rebuild.specs.declared.RebuildError.TheVariants.{BadCount, Unsound}
 
 -- ---- the top
+
+-- an offset, or none where it is the link to nothing
+abbrev pub place_of : Edition → ℕ → Option ℕ
+place_of e x = pick (eqb x (no_link e)) None (Some x)
 
 -- the top stands at p and ends at end: the chunk before is in use, and its head says just the rest
 unfoldable pub top_here : Edition → List ℕ → ℕ → ℕ → Bool → Bool
@@ -56,6 +62,16 @@ pub record Rebuilt : Type 0 where
 
 abbrev pub rebuilt : ℕ → List ℕ → List ℕ → Rebuilt
 rebuilt n r w = record { refusal = n; image = r; words = w }
+
+-- the code's answer, read so: a record, or why there is none, with set-up's empty record
+abbrev pub refusal_of : Result (List ℕ) RebuildError → ℕ
+refusal_of (Ok r) = 0
+refusal_of (Err BadCount) = 1
+refusal_of (Err Unsound) = 2
+
+abbrev pub image_or_empty : Edition → Result (List ℕ) RebuildError → List ℕ
+image_or_empty e (Ok r) = r
+image_or_empty e (Err why) = empty_image e (no_link e) 0 0
 
 -- "otherwise 2 (or 1 ..), with set-up's empty record and no word changed"
 abbrev pub refuses : Edition → ℕ → List ℕ → Rebuilt

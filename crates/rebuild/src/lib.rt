@@ -3,9 +3,9 @@
 #![tactic(auto)]
 
 ghost use Rattle.std.specs.Prelude.{◌≡◌, true};
-ghost use Rattle.words.specs.Edition.{wide, no_link};
+ghost use Rattle.words.specs.Edition.{wide};
 ghost use Rattle.marks.specs.Marks.{turns};
-ghost use Rattle.rebuild.specs.RebuildBytes.{top_here, seek_top, top_of, enter_b, fill_from, empty_image, allowed_start, rebuilt, rebuild_b};
+ghost use Rattle.rebuild.specs.RebuildBytes.{place_of, top_here, seek_top, top_of, enter_b, fill_from, empty_image, allowed_start, refusal_of, image_or_empty, rebuilt, rebuild_b};
 
 use chunk::access::{ChunkOff, NONE, get, sum};
 use chunk::heads::{cinuse, size};
@@ -15,59 +15,53 @@ use sound::words_ok;
 use tiles::{chunk_at, head_is};
 use treebin::bins::insert_chunk;
 
-// The refusal's number, 0 where it is granted, and the record.
-#[derive(Clone, Copy)]
-pub struct Rebuilt {
-    pub refusal: u64,
-    pub image: [u64; 72],
+// Why no record is made: the words' number or start, or no tiling in the words.
+#[derive(Clone, Copy, PartialEq, Eq, Debug)]
+pub enum RebuildError {
+    BadCount,
+    Unsound,
 }
 
 // The top stands at p and ends at end. pu: the chunk before is in use.
+#[tactic(auto, unfolding(crate::specs::RebuildBytes::top_here))]
 fn top_here(w: &[u64], end: u64, p: u64, pu: bool) -> bool
     ensures { result ≡ top_here wide w.now end p pu }
 {
-    if !pu {
-        return false;
-    }
-    if p >= end {
-        return false;
-    }
-    head_is(w, ChunkOff(p), end - p)
+    pu && p < end && head_is(w, ChunkOff(p), end - p)
 }
 
 // Chunks from 0 up to the top: its offset.
-fn seek_top(w: &[u64], end: u64) -> u64
-    ensures { result ≡ seek_top wide w.now end turns 0 true }
+#[tactic(auto, using(crate::proofs::RebuildCode::laws))]
+fn seek_top(w: &[u64], end: u64) -> Option<u64>
+    ensures { result ≡ place_of wide (seek_top wide w.now end turns 0 true) }
 {
     let mut p: u64 = 0;
     let mut pu = true;
-    let mut left = TURNS;
-    while left > 0 {
+    for _ in 0..TURNS {
         if top_here(w, end, p, pu) {
-            return p;
+            return Some(p);
         }
-        let s = chunk_at(w, p, pu, end);
-        if s.n == 0 {
-            return NONE;
-        }
-        p += s.n;
-        pu = s.used;
-        left -= 1;
+        let t = chunk_at(w, p, pu, end)?;
+        p += t.size;
+        pu = t.used;
     }
-    NONE
+    None
 }
 
 // The foot word, and the walk.
-fn find_top(w: &[u64], end: u64) -> u64
-    ensures { result ≡ top_of wide w.now end }
+#[tactic(auto, unfolding(crate::specs::RebuildBytes::top_of))]
+fn find_top(w: &[u64], end: u64) -> Option<u64>
+    ensures { result ≡ place_of wide (top_of wide w.now end) }
 {
-    if get(w, ChunkOff(end), 1) != 80 {
-        return NONE;
+    if get(w, ChunkOff(end), 1) == 80 {
+        seek_top(w, end)
+    } else {
+        None
     }
-    seek_top(w, end)
 }
 
 // A free chunk goes into its bin.
+#[tactic(auto, unfolding(crate::specs::RebuildBytes::enter_b))]
 fn enter(r: &mut [u64; 72], w: &mut [u64], p: ChunkOff, n: u64)
     ensures image { r.new ≡ (enter_b wide r.old w.old p.0 n).image }
     ensures words { w.new ≡ (enter_b wide r.old w.old p.0 n).words }
@@ -78,24 +72,24 @@ fn enter(r: &mut [u64; 72], w: &mut [u64], p: ChunkOff, n: u64)
 }
 
 // The chunks from 0 to the top, in address order.
+#[tactic(auto, using(crate::proofs::RebuildCode::laws))]
 fn fill(r: &mut [u64; 72], w: &mut [u64], top: u64)
     ensures image { r.new ≡ (fill_from wide top turns 0 r.old w.old).image }
     ensures words { w.new ≡ (fill_from wide top turns 0 r.old w.old).words }
 {
     let mut p: u64 = 0;
-    let mut left = TURNS;
-    while left > 0 {
+    for _ in 0..TURNS {
         if p >= top {
             return;
         }
         let n = size(w, ChunkOff(p));
         enter(r, w, ChunkOff(p), n);
         p = sum(p, n);
-        left -= 1;
     }
 }
 
 // Every bin empty, no dv.
+#[tactic(auto, unfolding(crate::specs::RebuildBytes::empty_image))]
 fn empty_image(top: u64, topsize: u64, length: u64) -> [u64; 72]
     ensures { result ≡ empty_image wide top topsize length }
 {
@@ -111,42 +105,25 @@ fn empty_image(top: u64, topsize: u64, length: u64) -> [u64; 72]
 }
 
 // Set-up's starts: 0 alone, until request (iv).
+#[tactic(auto, unfolding(crate::specs::RebuildBytes::allowed_start))]
 fn start_ok(start: u64) -> bool
     ensures { result ≡ allowed_start start }
 {
     start == 0
 }
 
-// A refusal hands back set-up's empty record.
-fn refuse(n: u64) -> Rebuilt
-    ensures number { result.refusal ≡ n }
-    ensures image { result.image ≡ empty_image wide (no_link wide) 0 0 }
+// A refusal changes no word; its record is set-up's empty one.
+#[tactic(auto, using(crate::proofs::RebuildCode::laws), unfolding(crate::specs::RebuildBytes::rebuild_b))]
+pub fn rebuild(w: &mut [u64], start: u64) -> Result<[u64; 72], RebuildError>
+    ensures { rebuilt (refusal_of result) (image_or_empty wide result) w.new ≡ rebuild_b wide w.old start }
 {
-    Rebuilt {
-        refusal: n,
-        image: empty_image(NONE, 0, 0),
-    }
-}
-
-pub fn rebuild(w: &mut [u64], start: u64) -> Rebuilt
-    ensures { rebuilt result.refusal result.image w.new ≡ rebuild_b wide w.old start }
-{
-    if !words_ok(w.len()) {
-        return refuse(1);
-    }
-    if !start_ok(start) {
-        return refuse(1);
+    if !words_ok(w.len()) || !start_ok(start) {
+        return Err(RebuildError::BadCount);
     }
     let length = 8 * (w.len() as u64);
     let end = length - 80;
-    let top = find_top(w, end);
-    if top == NONE {
-        return refuse(2);
-    }
+    let top = find_top(w, end).ok_or(RebuildError::Unsound)?;
     let mut r = empty_image(top, end - top, length);
     fill(&mut r, w, top);
-    Rebuilt {
-        refusal: 0,
-        image: r,
-    }
+    Ok(r)
 }

@@ -1,10 +1,11 @@
 -- THE WORDS LEVEL of the check's first part: the chunks from 0 to the top, and the top. What each test answers and which marks it leaves, for all
 -- inputs, in the code's own numbers. One walk of the heads marks the free chunks; it has a bound, more turns than a set has granules. r is the
 -- record's image, w the arena's words, m the marks; places and sizes are bytes; nothing wraps. Both editions. Assumes nothing.
-use Rattle.std.specs.Prelude.{Bool, true, false, ◌&&◌, List, ℕ, zero, suc, ◌+◌, ◌-◌, ◌*◌, ◌%◌, eqb, leb, ltb, get_or}
+use Rattle.std.specs.Prelude.{Bool, true, false, ◌&&◌, List, ℕ, zero, suc, ◌+◌, ◌-◌, ◌*◌, ◌%◌, eqb, leb, ltb, get_or, Option, Some, None}
 use Rattle.words.specs.Logic.{pick}
 use Rattle.words.specs.Edition.{Edition, W, flags_of}
 use Rattle.chunk.specs.Bytes.{word}
+use Rattle.tiles.specs.declared.Tile.{Tile}
 use Rattle.marks.specs.Marks.{set_mark, Checked, checked, no}
 
 -- the head of c is exactly that of a free chunk of n bytes, or of the top: the chunk before is in use, and no other flag
@@ -27,6 +28,10 @@ pub record Step : Type 0 where
 
 abbrev pub step : ℕ → Bool → Step
 step n u = record { size = n; used = u }
+
+-- the same as a chunk, or none where none fits
+abbrev pub tile_of : Step → Option Tile
+tile_of s = pick (eqb s.size 0) None (Some (record { size = s.size; used = s.used }))
 
 -- the flags of a chunk in use: CINUSE, and PINUSE where the chunk before is in use
 abbrev pub used_flags : Bool → ℕ

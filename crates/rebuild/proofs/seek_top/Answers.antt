@@ -1,33 +1,18 @@
-use Rattle.rebuild.proofs.RebuildCode.{laws}
+use native.Mathlib.Omega.{arith}
+use mathlib.Core.Path.{sym, ◌∙◌}
+use Prim.Native.Nat.{◌+◌, ◌^◌, ◌<◌}
 use borrow.Author.Rules.{rules}
+use Rattle.words.specs.Edition.{wide}
+use Rattle.rebuild.proofs.RebuildCode.{seek_here, seek_fits}
 use Rattle.rebuild.proofs.seek_top.Goals as goal
 
-pub loop-left-init : goal.loop-left-init
-loop-left-init c = search (laws, rules)
-
-pub top_here-requires : goal.top_here-requires
-top_here-requires c = search (laws, rules)
-
 pub returns-then-top_here : goal.returns-then-top_here
-returns-then-top_here c = search (laws, rules)
-
-pub chunk_at-s-requires : goal.chunk_at-s-requires
-chunk_at-s-requires c = search (laws, rules)
-
-pub returns-then-s-eq0 : goal.returns-then-s-eq0
-returns-then-s-eq0 c = search (laws, rules)
+returns-then-top_here c =
+    seek_here wide _ _ _ _ _ c.loop.invariant c.loop-test.true c.top_here.ensures c.if-top_here.true (omega arith)
 
 pub overflow_add-p : goal.overflow_add-p
-overflow_add-p c = search (laws, rules)
-
-pub overflow_sub-left : goal.overflow_sub-left
-overflow_sub-left c = search (laws, rules)
-
-pub loop-left-smaller : goal.loop-left-smaller
-loop-left-smaller c = search (laws, rules)
-
-pub loop-left-preserved : goal.loop-left-preserved
-loop-left-preserved c = search (laws, rules)
-
-pub returns : goal.returns
-returns c = search (laws, rules)
+overflow_add-p c =
+    let below : c.loop.p + c.in_ok-t.t.size < 2 ^ 64 =
+    seek_fits wide _ _ _ _ _ c.loop.invariant c.loop-test.true c.top_here.ensures c.if-top_here.false _ (sym c.chunk_at.ensures ∙ c.in_ok-t.was)
+    c.ranges.end.fits in
+    search rules

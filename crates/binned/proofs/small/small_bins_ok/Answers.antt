@@ -1,24 +1,5 @@
-use borrow.Author.Rules.{rules}
-use Rattle.binned.proofs.SmallCode.{laws}
+use Rattle.binned.proofs.SmallCode.{smalls_bad}
 use Rattle.binned.proofs.small.small_bins_ok.Goals as goal
 
-pub loop-i-init : goal.loop-i-init
-loop-i-init c = search (laws, rules)
-
-pub small_bin_ok-requires : goal.small_bin_ok-requires
-small_bin_ok-requires c = search (laws, rules)
-
 pub returns-then-not-small_bin_ok : goal.returns-then-not-small_bin_ok
-returns-then-not-small_bin_ok c = search (laws, rules)
-
-pub overflow_add-i : goal.overflow_add-i
-overflow_add-i c = search (laws, rules)
-
-pub loop-i-smaller : goal.loop-i-smaller
-loop-i-smaller c = search (laws, rules)
-
-pub loop-i-preserved : goal.loop-i-preserved
-loop-i-preserved c = search (laws, rules)
-
-pub returns : goal.returns
-returns c = search (laws, rules)
+returns-then-not-small_bin_ok c = smalls_bad _ _ _ _ _ c.loop-i.invariant c.loop-i-test.true c.small_bin_ok.ensures c.if-not-small_bin_ok.true

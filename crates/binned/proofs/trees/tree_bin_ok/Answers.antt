@@ -1,13 +1,6 @@
-use Rattle.binned.proofs.TreesCode.{root-fits, laws}
-use borrow.Author.Rules.{rules}
+use Rattle.binned.proofs.TreesCode.{tree_root}
 use Rattle.binned.proofs.trees.tree_bin_ok.Goals as goal
 
-pub returns-then-not-bit_ok : goal.returns-then-not-bit_ok
-returns-then-not-bit_ok c = search (laws, rules)
-
-pub tree_ok-requires : goal.tree_ok-requires
-tree_ok-requires c =
-    root-fits _ c.requires c.min_size_for_tree_index.ensures
-
-pub returns : goal.returns
-returns c = search (laws, rules)
+pub returns-then-bit_ok-clause-marks : goal.returns-then-bit_ok-clause-marks
+returns-then-bit_ok-clause-marks c =
+    tree_root _ _ _ _ _ c.treebin_at-t.ensures c.bit_ok.ensures c.if-bit_ok.true c.requires c.min_size_for_tree_index.ensures c.tree_ok.ensures.marks

@@ -1,24 +1,12 @@
-use borrow.Author.Rules.{rules}
-use Rattle.binned.proofs.TreesCode.{laws}
+use Rattle.binned.proofs.TreesCode.{trees_end, trees_bad, trees_turn}
 use Rattle.binned.proofs.trees.tree_bins_ok.Goals as goal
 
-pub loop-i-init : goal.loop-i-init
-loop-i-init c = search (laws, rules)
-
-pub tree_bin_ok-requires : goal.tree_bin_ok-requires
-tree_bin_ok-requires c = search (laws, rules)
-
 pub returns-then-not-tree_bin_ok : goal.returns-then-not-tree_bin_ok
-returns-then-not-tree_bin_ok c = search (laws, rules)
-
-pub overflow_add-i : goal.overflow_add-i
-overflow_add-i c = search (laws, rules)
-
-pub loop-i-smaller : goal.loop-i-smaller
-loop-i-smaller c = search (laws, rules)
+returns-then-not-tree_bin_ok c = trees_bad _ _ _ _ _ _ c.loop-i.invariant c.loop-i-test.true c.tree_bin_ok.ensures.marks c.if-not-tree_bin_ok.true
 
 pub loop-i-preserved : goal.loop-i-preserved
-loop-i-preserved c = search (laws, rules)
+loop-i-preserved c =
+    trees_turn _ _ _ _ _ _ c.loop-i.invariant c.loop-i-test.true c.tree_bin_ok.ensures.marks c.if-not-tree_bin_ok.false c.tree_bin_ok.ensures.sizes
 
 pub returns : goal.returns
-returns c = search (laws, rules)
+returns c = trees_end _ _ _ _ _ _ c.loop-i.invariant c.loop-i-test.false
