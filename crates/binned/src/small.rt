@@ -5,7 +5,7 @@ ghost use Rattle.marks.specs.Marks.{checked, turns};
 ghost use Rattle.binned.specs.BinsBytes.{dv_ok, bit_ok, linked_ok, list_ok, small_bin_ok, small_bins_ok};
 
 use chunk::access::{ChunkOff, NONE, get, link};
-use chunk::image::{DV, DVSIZE, SMALLMAP, smallbin_at};
+use chunk::image::{DV, DVSIZE, SMALLMAP, Small, bin_at};
 use marks::{Marks, TURNS};
 use tiles::head_is;
 
@@ -61,7 +61,7 @@ fn list_ok(w: &[u64], m: &mut Marks, newest: ChunkOff, n: u64) -> bool
 fn small_bin_ok(r: &[u64; 72], w: &[u64], m: &mut Marks, i: u32) -> bool
     ensures { checked result m.new ≡ small_bin_ok wide r.now w.now i m.old }
 {
-    let c = smallbin_at(r, i);
+    let c = bin_at::<Small>(r, i);
     bit_ok(r[SMALLMAP], i, c) && list_ok(w, m, c, 8 * (i as u64))
 }
 

@@ -8,7 +8,7 @@ ghost use Rattle.binned.specs.BinsBytes.{childless, member_ok, ring_ok, node_siz
 
 use crate::small::bit_ok;
 use chunk::access::{ChunkOff, NONE, ROOT, get, link};
-use chunk::image::{TREEMAP, treebin_at};
+use chunk::image::{TREEMAP, Tree, bin_at};
 use index::tree_bin::min_size_for_tree_index;
 use marks::{Marks, TURNS};
 use tiles::head_is;
@@ -147,7 +147,7 @@ fn tree_bin_ok(r: &[u64; 72], w: &[u64], m: &mut Marks, sizes: &mut Marks, i: u3
     ensures marks { checked result m.new ≡ tree_bin_ok wide r.now w.now sizes.old i m.old }
     ensures sizes { result ≡ true → sizes.new ≡ sizes.old }
 {
-    let t = treebin_at(r, i);
+    let t = bin_at::<Tree>(r, i);
     let root = Place {
         up: ROOT,
         bin: i,

@@ -1,6 +1,6 @@
 -- The rebuild's code: one law for each return, what the tests and the callees have told put together as the definition says it. Over the
 -- edition. Assumes nothing.
-use mathlib.Core.Bool.{Bool, true, false, ◌&&◌}
+use mathlib.Core.Bool.{Bool, true, false}
 use mathlib.Core.List.{List}
 use mathlib.Core.Path.{◌≡◌, refl, sym, ap, ◌∙◌, subst}
 use Prim.Native.Nat.{ℕ, zero, suc, ◌+◌, ◌-◌, ◌*◌, ◌≤◌, ◌<◌}
@@ -91,7 +91,6 @@ module _ (E : Edition) (w : List ℕ) (end : ℕ) where
 
 -- after i turns filling on from here is all of it
 pub record FillsOn (E : Edition) (top : ℕ) (r₀ w₀ : List ℕ) (p : ℕ) (r w : List ℕ) (i : ℕ) : Type 0 where
-  pub count : length w ≡ length w₀
   pub same : fill_from E top (turns - i) p r w ≡ fill_from E top turns 0 r₀ w₀
 
 module _ (E : Edition) (top : ℕ) where
@@ -112,7 +111,7 @@ module _ (E : Edition) (top : ℕ) where
   fill_next k j p r w a l = ap (λ x. fill_from E top x p r w) a ∙ rw (lt-ltb p top l) refl
 
   pub fill_start : (r w : List ℕ) → FillsOn E top r w 0 r w 0
-  fill_start r w = record { count = refl; same = refl }
+  fill_start r w = record { same = refl }
 
   module _ (r₀ w₀ : List ℕ) (p : ℕ) (r w : List ℕ) (i : ℕ) (v : FillsOn E top r₀ w₀ p r w i) where
     pub out_image : turns ≤ i → r ≡ (fill_from E top turns 0 r₀ w₀).image
@@ -129,9 +128,8 @@ module _ (E : Edition) (top : ℕ) where
       done_words l = ap (λ (s : Store). s.words) (sym (fill_top (turns - i) p r w (omega arith) l) ∙ v.same)
 
       pub fill_turn : {n q : ℕ} {r₁ w₁ : List ℕ} → p < top → n ≡ size_b E w p → r₁ ≡ (enter_b E r w p n).image → w₁ ≡ (enter_b E r w p n).words
-          → length w₁ ≡ length w → q ≡ wrap E (p + n) → FillsOn E top r₀ w₀ q r₁ w₁ (i + 1)
-      fill_turn {n} {q} {r₁} {w₁} l s f g k h = record {
-        count = k ∙ v.count;
+          → q ≡ wrap E (p + n) → FillsOn E top r₀ w₀ q r₁ w₁ (i + 1)
+      fill_turn {n} {q} {r₁} {w₁} l s f g h = record {
         same = next n s q h r₁ f w₁ g ∙ v.same;
       }
         where

@@ -5,10 +5,11 @@
 ghost use Rattle.std.specs.Prelude.{◌≡◌, true};
 ghost use Rattle.words.specs.Edition.{wide};
 ghost use Rattle.marks.specs.Marks.{turns};
+ghost use Rattle.chunk.specs.Running.{Becomes};
 ghost use Rattle.rebuild.specs.RebuildBytes.{place_of, top_here, seek_top, top_of, enter_b, fill_from, empty_image, allowed_start, refusal_of, image_or_empty, rebuilt, rebuild_b};
 
 use chunk::access::{ChunkOff, NONE, get, sum};
-use chunk::heads::{cinuse, size};
+use chunk::heap::Heap;
 use chunk::image::{DVSIZE, LENGTH, SMALLMAP, TOP, TOPSIZE, TREEMAP};
 use marks::TURNS;
 use sound::words_ok;
@@ -62,28 +63,27 @@ fn find_top(w: &[u64], end: u64) -> Option<u64>
 
 // A free chunk goes into its bin.
 #[tactic(auto, unfolding(crate::specs::RebuildBytes::enter_b))]
-fn enter(r: &mut [u64; 72], w: &mut [u64], p: ChunkOff, n: u64)
-    ensures image { r.new ≡ (enter_b wide r.old w.old p.0 n).image }
-    ensures words { w.new ≡ (enter_b wide r.old w.old p.0 n).words }
+fn enter(h: &mut Heap, p: ChunkOff, n: u64)
+    ensures { Becomes h.old h.new (enter_b wide h.old.image.now h.old.words.now p.0 n) }
 {
-    if !cinuse(w, p) {
-        insert_chunk(r, w, p, n);
+    if !h.cinuse(p) {
+        insert_chunk(h, p, n);
     }
 }
 
 // The chunks from 0 to the top, in address order.
 #[tactic(auto, using(crate::proofs::RebuildCode::laws))]
-fn fill(r: &mut [u64; 72], w: &mut [u64], top: u64)
-    ensures image { r.new ≡ (fill_from wide top turns 0 r.old w.old).image }
-    ensures words { w.new ≡ (fill_from wide top turns 0 r.old w.old).words }
+fn fill(h: &mut Heap, top: u64)
+    ensures { Becomes h.old h.new (fill_from wide top turns 0 h.old.image.now h.old.words.now) }
 {
     let mut p: u64 = 0;
     for _ in 0..TURNS {
         if p >= top {
             return;
         }
-        let n = size(w, ChunkOff(p));
-        enter(r, w, ChunkOff(p), n);
+        let c = ChunkOff(p);
+        let n = h.size(c);
+        enter(h, c, n);
         p = sum(p, n);
     }
 }
@@ -124,6 +124,10 @@ pub fn rebuild(w: &mut [u64], start: u64) -> Result<[u64; 72], RebuildError>
     let end = length - 80;
     let top = find_top(w, end).ok_or(RebuildError::Unsound)?;
     let mut r = empty_image(top, end - top, length);
-    fill(&mut r, w, top);
+    let mut h = Heap {
+        image: &mut r,
+        words: w,
+    };
+    fill(&mut h, top);
     Ok(r)
 }
