@@ -23,7 +23,7 @@ heeded (Err why) r w t = told (refused (reason_of why)) r w
 
 -- a row's test and its refusal
 module _ (r w : List ℕ) (why : Reason) (t : Told) where
-  held : (b : Bool) → pick b t (told (refused (reason_of why)) r w) ≡ heeded (unless b why) r w t
+  pub held : (b : Bool) → pick b t (told (refused (reason_of why)) r w) ≡ heeded (unless b why) r w t
   held true = refl
   held false = refl
 
@@ -65,7 +65,7 @@ is_few true q = absurd (let z : ⊥ = cc in z)
 is_few false q = refl
 
 -- so the size that the core is asked for is the size that n bytes need
-plain : (words n : ℕ) {y : ⊤} → count_ok words ≡ true → Ok y ≡ row4 words n → need 8 n % 2 ^ 64 ≡ need 8 n
+pub plain : (words n : ℕ) {y : ⊤} → count_ok words ≡ true → Ok y ≡ row4 words n → need 8 n % 2 ^ 64 ≡ need 8 n
 unfolding row4
 plain words n p q = plain_need n words p (is_few (ltb (8 * words) n) (sym q))
 
