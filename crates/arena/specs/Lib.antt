@@ -2,4 +2,3 @@
 pub mod Record
 pub mod Answers
 pub mod Refusals
-pub mod RefusalLaws
