@@ -1,4 +1,7 @@
-use Rattle.abi.proofs.AbiCode.{lent_72, lent_2, call_lost, call_odd, call_said}
+use Rattle.std.proofs.Common.{◌≡◌, rules}
+use Rattle.arena.specs.Answers.{block_answer}
+use Rattle.abi.specs.Words.{block_value}
+use Rattle.abi.proofs.AbiCode.{Says, says_block, lent_72, lent_2, call_lost, call_odd, call_said}
 use Rattle.abi.proofs.nuka_realloc.Goals as goal
 
 pub returns-then-not-lent_ok : goal.returns-then-not-lent_ok
@@ -13,7 +16,7 @@ tell-requires c = lent_2 _ _ c.lent_ok.ensures c.if-not-lent_ok.false
 pub returns-then-r-ne0 : goal.returns-then-r-ne0
 returns-then-r-ne0 c =
     call_odd _ _ _ _ c.lent_ok.ensures c.if-not-lent_ok.false c.image_in-r.ensures _ c.if-r-ne0.true c.odd_record.ensures
-    c.tell.ensures.value c.tell.ensures.out
+    c.tell.ensures.number c.tell.ensures.out
 
 pub hand_out-requires : goal.hand_out-requires
 hand_out-requires c = record {
@@ -23,5 +26,7 @@ hand_out-requires c = record {
 
 pub returns : goal.returns
 returns c =
-    call_said _ _ _ _ c.lent_ok.ensures c.if-not-lent_ok.false c.image_in-r.ensures _ _ _ c.if-r-ne0.false c.realloc-a.ensures
-    c.hand_out.ensures.value c.hand_out.ensures.rec c.hand_out.ensures.out
+    let e : c.map.result ≡ block_value c.realloc-a.result = search rules in
+    call_said _ _ _ _ c.lent_ok.ensures c.if-not-lent_ok.false c.image_in-r.ensures
+    (let s : Says c.map.result (block_answer c.realloc-a.result) = rw e (says_block _) in s) _ _ c.if-r-ne0.false c.realloc-a.ensures
+    c.hand_out.ensures.number c.hand_out.ensures.rec c.hand_out.ensures.out
