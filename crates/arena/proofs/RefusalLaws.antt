@@ -1,13 +1,16 @@
 -- THE ROWS, as steps of a call: what each tells where it refuses, and the grant past them. Assumes nothing.
-use Rattle.std.proofs.Common.{◌≡◌, ℕ, ◌*◌, ◌%◌, ◌^◌, Bool, true, false, List, length, get_or, ltb, eqb, Result, Ok, Err, refl, sym, ap, ◌∙◌}
-use Rattle.std.specs.Prelude.{⊤}
+use Rattle.std.proofs.Common.{◌≡◌, ℕ, ◌*◌, ◌%◌, ◌^◌, Bool, true, false, List, length, get_or, ltb, eqb, Result, Ok, Err, ◌-◌, ne_eqb, refl, sym, ap, ◌∙◌}
+use Rattle.std.specs.Prelude.{⊤, Option, Some, None}
 use Rattle.words.specs.Logic.{pick}
 use Rattle.words.specs.Edition.{wide, no_link}
 use Rattle.index.specs.Sizes.{need}
 use Rattle.rules.specs.Calls as rules
 use Rattle.rules.specs.Calls.{Call, Malloc, Free, Realloc, Memalign, Usable, refused, allowed_count, is_in, alignments}
 use Rattle.chunk.specs.declared.access.BlockOff.{BlockOff}
-use Rattle.malloc.specs.MallocBytes.{Reply, reply}
+use Rattle.chunk.specs.declared.access.ChunkOff.{ChunkOff}
+use Rattle.chunk.specs.declared.heap.Heap.{Heap}
+use Rattle.malloc.specs.MallocBytes.{Reply}
+use Rattle.malloc.specs.Granting.{Grants}
 use Rattle.sound.specs.SoundBytes.{count_ok, sound_b, live_b}
 use Rattle.calls.specs.Counts.{count_allowed, plain_need}
 use Rattle.calls.specs.CallBytes.{Told, told, block_at, grant_of, grant_or_no, if_live, if_few}
@@ -74,19 +77,18 @@ unfolding rows12
 counted r w p = count_allowed (length w) ∙ allowed (allowed_count (length w)) (sound_b wide r w) (sym p)
 
 -- row 6, of what the core has told
-pub row6_grants : (p : ℕ) → block_answer (row6 p) ≡ grant_of wide p
+row6_grants : (before after : Heap) (o : Option ChunkOff) (t : Reply) → Grants before after o t
+    → told (block_answer (row6 o)) after.image.now after.words.now ≡ grant_or_no wide t
 unfolding row6
-row6_grants p = at (eqb p (no_link wide))
-  where
-    at : (b : Bool) → block_answer (pick b (Err NoRoom) (Ok (record { 0 = block_at wide p }))) ≡ pick b (refused rules.no_room) (rules.granted (block_at wide p))
-    at true = refl
-    at false = refl
+row6_grants before after None t (e, s) = ap (grant_or_no wide) e
+row6_grants before after (Some c) t (n, (e, s)) = sym (rw (ne_eqb c.0 (2 ^ 64 - 1) n) refl) ∙ ap (grant_or_no wide) e
 
 module _ (words n : ℕ) {y : ⊤} (p : count_ok words ≡ true) (q : Ok y ≡ row4 words n) where
-  pub granting : (core : ℕ → Reply) {m k : ℕ} {r' w' : List ℕ} {a : Result BlockOff Reason} → m ≡ need 8 n % 2 ^ 64 → reply k r' w' ≡ core m → a ≡ row6 k
-      → told (block_answer a) r' w' ≡ grant_or_no wide (core (need 8 n))
-  granting core {k = k} {r' = r'} {w' = w'} i j u =
-      ap (λ z. told z r' w') (ap block_answer u ∙ row6_grants k) ∙ ap (grant_or_no wide) (j ∙ ap core (i ∙ plain words n p q))
+  pub granting : (core : ℕ → Reply) (before after : Heap) {m : ℕ} {o : Option ChunkOff} {a : Result BlockOff Reason} → m ≡ need 8 n % 2 ^ 64
+      → Grants before after o (core m) → a ≡ row6 o → told (block_answer a) after.image.now after.words.now ≡ grant_or_no wide (core (need 8 n))
+  granting core before after {m} {o} i j u =
+      ap (λ z. told z after.image.now after.words.now) (ap block_answer u) ∙ row6_grants before after o (core m) j
+      ∙ ap (grant_or_no wide) (ap core (i ∙ plain words n p q))
 
 -- ---- at a row that refuses, and past one that does not
 

@@ -1,9 +1,10 @@
 -- THE ROWS, one at a time: a test that lets the call go on, or a refusal with its reason. Assumes nothing.
-use Rattle.std.specs.Prelude.{Bool, List, ℕ, ◌*◌, length, get_or, ltb, eqb, Result, Ok, Err, ⊤}
+use Rattle.std.specs.Prelude.{Bool, List, ℕ, ◌*◌, length, get_or, ltb, Option, Some, None, Result, Ok, Err, ⊤}
 use Rattle.words.specs.Logic.{pick}
-use Rattle.words.specs.Edition.{wide, no_link}
+use Rattle.words.specs.Edition.{wide}
 use Rattle.rules.specs.Calls.{allowed_count, is_in, alignments}
 use Rattle.chunk.specs.declared.access.BlockOff.{BlockOff}
+use Rattle.chunk.specs.declared.access.ChunkOff.{ChunkOff}
 use Rattle.sound.specs.SoundBytes.{sound_b, live_b}
 use Rattle.calls.specs.CallBytes.{block_at}
 use Rattle.arena.specs.declared.answers.Reason.{Reason}
@@ -30,5 +31,6 @@ unfoldable pub row5 : List ℕ → List ℕ → BlockOff → Result ⊤ Reason
 row5 r w b = unless (live_b wide w (get_or r 4 0) b.0) (NotLive b)
 
 -- row 6: the chunk that the core found, as a block
-unfoldable pub row6 : ℕ → Result BlockOff Reason
-row6 c = pick (eqb c (no_link wide)) (Err NoRoom) (Ok (record { 0 = block_at wide c }))
+unfoldable pub row6 : Option ChunkOff → Result BlockOff Reason
+row6 None = Err NoRoom
+row6 (Some c) = Ok (record { 0 = block_at wide c.0 })

@@ -5,7 +5,7 @@ ghost use Rattle.calls.specs.Record.{reads, image, numbers_of, empty_control};
 ghost use Rattle.arena.specs.Record.{offsets, copied_up, numbers};
 
 use chunk::access::{ChunkOff, NONE};
-use chunk::image::{DV, DVSIZE, LENGTH, SMALLMAP, TOP, TOPSIZE, TREEMAP, smallmap, treemap};
+use chunk::image::{DV, DVSIZE, LENGTH, SMALLMAP, TOP, TOPSIZE, TREEMAP, Small, Tree, map};
 
 #[derive(Clone, Copy)]
 pub struct Control {
@@ -63,8 +63,8 @@ pub fn control_of(r: &[u64; 72]) -> Control
     ensures { numbers result ≡ numbers_of r.now }
 {
     Control {
-        smallmap: smallmap(r),
-        treemap: treemap(r),
+        smallmap: map::<Small>(r),
+        treemap: map::<Tree>(r),
         smallbins: links_at(r, 8),
         treebins: links_at(r, 40),
         dv: ChunkOff(r[DV]),

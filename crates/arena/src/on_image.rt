@@ -9,6 +9,7 @@ ghost use Rattle.arena.specs.Refusals.{rows12, row5};
 use crate::answers::Reason;
 use crate::refusals::{aligned, few, granted};
 use chunk::access::{BlockOff, from_mem};
+use chunk::heap::Heap;
 use chunk::image::TOP;
 use free::free_chunk;
 use index::sizes::request2size;
@@ -46,8 +47,8 @@ pub fn malloc(r: &mut [u64; 72], w: &mut [u64], bytes: u64) -> Result<BlockOff, 
 {
     checked(r, w)?;
     few(w.len(), bytes)?;
-    let p = malloc_chunk(r, w, request2size(bytes));
-    granted(p)
+    let mut h = Heap { image: r, words: w };
+    granted(malloc_chunk(&mut h, request2size(bytes)))
 }
 
 pub fn free(r: &mut [u64; 72], w: &mut [u64], b: BlockOff) -> Result<(), Reason>
@@ -55,7 +56,8 @@ pub fn free(r: &mut [u64; 72], w: &mut [u64], b: BlockOff) -> Result<(), Reason>
 {
     checked(r, w)?;
     live(r, w, b)?;
-    free_chunk(r, w, from_mem(b));
+    let mut h = Heap { image: r, words: w };
+    free_chunk(&mut h, from_mem(b));
     Ok(())
 }
 
@@ -70,8 +72,8 @@ pub fn realloc(
     checked(r, w)?;
     few(w.len(), bytes)?;
     live(r, w, b)?;
-    let p = realloc_chunk(r, w, from_mem(b), request2size(bytes));
-    granted(p)
+    let mut h = Heap { image: r, words: w };
+    granted(realloc_chunk(&mut h, from_mem(b), request2size(bytes)))
 }
 
 pub fn memalign(
@@ -85,8 +87,8 @@ pub fn memalign(
     checked(r, w)?;
     aligned(alignment)?;
     few(w.len(), bytes)?;
-    let p = memalign_chunk(r, w, alignment, request2size(bytes));
-    granted(p)
+    let mut h = Heap { image: r, words: w };
+    granted(memalign_chunk(&mut h, alignment, request2size(bytes)))
 }
 
 pub fn usable(r: &[u64; 72], w: &[u64], b: BlockOff) -> Result<u64, Reason>

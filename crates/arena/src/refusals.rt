@@ -3,7 +3,7 @@ ghost use Rattle.std.specs.Prelude.{◌≡◌};
 ghost use Rattle.arena.specs.Refusals.{row3, row4, row6};
 
 use crate::answers::Reason;
-use chunk::access::{BlockOff, ChunkOff, NONE, to_mem};
+use chunk::access::{BlockOff, ChunkOff, to_mem};
 use rows::{alignment_ok, too_many};
 
 // Row 3.
@@ -28,13 +28,12 @@ pub fn few(words: usize, bytes: u64) -> Result<(), Reason>
     }
 }
 
-// Row 6: the core found no chunk, or the block that starts in it.
-pub fn granted(p: ChunkOff) -> Result<BlockOff, Reason>
-    ensures { result ≡ row6 p.0 }
+// Row 6: the core found a chunk, and the block starts in it.
+pub fn granted(p: Option<ChunkOff>) -> Result<BlockOff, Reason>
+    ensures { result ≡ row6 p }
 {
-    if p.0 == NONE {
-        Err(Reason::NoRoom)
-    } else {
-        Ok(to_mem(p))
+    match p {
+        Some(c) => Ok(to_mem(c)),
+        None => Err(Reason::NoRoom),
     }
 }

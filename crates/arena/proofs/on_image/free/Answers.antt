@@ -16,5 +16,5 @@ returns-in_err-live c =
 
 pub returns : goal.returns
 returns c =
-    freeing _ _ c.args.b c.from_mem.ensures c.free_chunk.ensures.image c.free_chunk.ensures.words
+    freeing _ _ c.args.b c.from_mem.ensures c.free_chunk.ensures.0 c.free_chunk.ensures.1
     ∙ sym (go _ _ _ (go _ _ _ (free_rows c.args.r.now c.args.w.now c.args.b) c.in_ok-checked.ensures) c.in_ok-live.ensures)

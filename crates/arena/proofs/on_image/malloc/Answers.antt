@@ -18,5 +18,5 @@ returns-in_err-few c =
 
 pub returns : goal.returns
 returns c =
-    granting _ _ (counted _ _ c.in_ok-checked.ensures) c.in_ok-few.ensures (malloc_b wide c.args.r.now c.args.w.now) c.request2size.ensures c.malloc_chunk-p.ensures c.granted.ensures
+    granting _ _ (counted _ _ c.in_ok-checked.ensures) c.in_ok-few.ensures (malloc_b wide c.args.r.now c.args.w.now) ? ? c.request2size.ensures c.malloc_chunk.ensures c.granted.ensures
     ∙ sym (go _ _ _ (go _ _ _ (malloc_rows c.args.r.now c.args.w.now c.args.bytes) c.in_ok-checked.ensures) c.in_ok-few.ensures)

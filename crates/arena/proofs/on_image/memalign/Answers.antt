@@ -23,5 +23,5 @@ returns-in_err-few c =
 
 pub returns : goal.returns
 returns c =
-    granting _ _ (counted _ _ c.in_ok-checked.ensures) c.in_ok-few.ensures (memalign_b wide c.args.r.now c.args.w.now c.args.alignment) c.request2size.ensures c.memalign_chunk-p.ensures c.granted.ensures
+    granting _ _ (counted _ _ c.in_ok-checked.ensures) c.in_ok-few.ensures (memalign_b wide c.args.r.now c.args.w.now c.args.alignment) ? ? c.request2size.ensures c.memalign_chunk.ensures c.granted.ensures
     ∙ sym (go _ _ _ (go _ _ _ (go _ _ _ (memalign_rows c.args.r.now c.args.w.now c.args.alignment c.args.bytes) c.in_ok-checked.ensures) c.in_ok-aligned.ensures) c.in_ok-few.ensures)
