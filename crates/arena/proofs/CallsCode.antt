@@ -3,6 +3,7 @@ use Rattle.std.proofs.Common.{◌≡◌, ℕ, ◌+◌, ◌-◌, ◌*◌, ◌≤�
 use Rattle.std.specs.Prelude.{⊤}
 use Rattle.words.specs.Logic.{pick, pick_case}
 use Rattle.words.specs.Edition.{wide, no_link}
+use Rattle.rules.specs.Calls as rules
 use Rattle.rules.specs.Calls.{Call, Usable, Answer, done, refused, bad_count, allowed_count}
 use Rattle.chunk.specs.declared.access.BlockOff.{BlockOff}
 use Rattle.lend.specs.LendBytes.{lent, lent_from}
@@ -11,8 +12,11 @@ use Rattle.sound.specs.SoundBytes.{count_ok, sound_b, live_b}
 use Rattle.calls.specs.CallBytes.{Told, told, call_b}
 use Rattle.calls.specs.Record.{image, numbers_of, empty_control}
 use Rattle.calls.specs.ByValue.{ends, handed_back, heard, call_a, set_up_a, rebuild_says, rebuild_a}
-use Rattle.rebuild.specs.RebuildBytes.{Rebuilt, rebuilt, rebuild_b}
-use Rattle.arena.specs.Answers.{block_answer, done_answer}
+use Rattle.calls.proofs.Rebuilds.{empty_numbers}
+use Rattle.rebuild.specs.RebuildBytes.{Rebuilt, rebuilt, empty_image, refusal_of, image_or_empty, rebuild_b}
+use Rattle.rebuild.specs.declared.RebuildError.{RebuildError}
+use Rattle.rebuild.specs.declared.RebuildError.TheVariants.{BadCount, Unsound}
+use Rattle.arena.specs.Answers.{reason_of, reason_from, block_answer, done_answer}
 use Rattle.arena.specs.declared.answers.Reason.{Reason}
 use Rattle.calls.specs.Counts.{count_allowed, count_range}
 
@@ -76,12 +80,24 @@ module _ (c : Control) (w : List ℕ) (k : Call) {r r' w' : List ℕ} {d : Contr
 
 -- ---- the rebuild
 
-pub rebuild_ends : (w : List ℕ) (start : ℕ) {n : ℕ} {i v : List ℕ} {a : Answer} {d : Control} → rebuilt n i v ≡ rebuild_b wide w start
-    → a ≡ rebuild_says n → d ≡ numbers_of i → ends a d v ≡ rebuild_a wide w start
-unfolding rebuild_a
-rebuild_ends w start {n} {i} {v} {a} {d} f q g =
-    ap (λ x. ends x d v) q ∙ ap (λ x. ends (rebuild_says n) x v) g
-    ∙ ap (λ (x : Rebuilt). ends (rebuild_says x.refusal) (numbers_of x.image) x.words) f
+module _ (w : List ℕ) (start : ℕ) (x : Result (List ℕ) RebuildError) {v : List ℕ} (f : rebuilt (refusal_of x) (image_or_empty wide x) v ≡ rebuild_b wide w start) where
+  ended : ends (rebuild_says (refusal_of x)) (numbers_of (image_or_empty wide x)) v ≡ rebuild_a wide w start
+  unfolding rebuild_a
+  ended = ap (λ (t : Rebuilt). ends (rebuild_says t.refusal) (numbers_of t.image) t.words) f
+
+  pub rebuild_done : {r : List ℕ} {d : Control} → x ≡ Ok r → d ≡ numbers_of r → ends rules.done d v ≡ rebuild_a wide w start
+  rebuild_done e g = ap (λ y. ends rules.done y v) g ∙ ap (λ y. ends (rebuild_says (refusal_of y)) (numbers_of (image_or_empty wide y)) v) (sym e) ∙ ended
+
+  pub rebuild_refused : {why : RebuildError} {reason : Reason} {d : Control} → x ≡ Err why → reason ≡ reason_from why → d ≡ empty_control wide (no_link wide) 0 0
+      → ends (rules.refused (reason_of reason)) d v ≡ rebuild_a wide w start
+  rebuild_refused {why} {reason} {d} e h g =
+      ap (λ y. ends (rules.refused (reason_of y)) d v) h ∙ says why _ (g ∙ sym (empty_numbers wide))
+      ∙ ap (λ y. ends (rebuild_says (refusal_of y)) (numbers_of (image_or_empty wide y)) v) (sym e) ∙ ended
+    where
+      says : (why : RebuildError) (d : Control) → d ≡ numbers_of (empty_image wide (no_link wide) 0 0)
+          → ends (rules.refused (reason_of (reason_from why))) d v ≡ ends (rebuild_says (refusal_of (Err why))) (numbers_of (empty_image wide (no_link wide) 0 0)) v
+      says BadCount d q = ap (λ y. ends (rules.refused rules.bad_count) y v) q
+      says Unsound d q = ap (λ y. ends (rules.refused rules.unsound) y v) q
 
 -- ---- lent
 
@@ -91,4 +107,4 @@ lent_of w off p q = q ∙ ap (λ z. lent wide z w off) p
 pub lent_from_lem : {r s : List ℕ} (w : List ℕ) (off : ℕ) {a : ℕ} (b : ℕ) → r ≡ s → a ≡ lent_from wide r w off * 8 + b → a ≡ lent_from wide s w off * 8 + b
 lent_from_lem w off b p q = q ∙ ap (λ z. lent_from wide z w off * 8 + b) p
 
-pub ruleset laws = (block_ends, done_ends, usable_ends, rebuild_ends)
+pub ruleset laws = (block_ends, done_ends, usable_ends, rebuild_done, rebuild_refused)

@@ -1,21 +1,20 @@
 -- THE ROWS, as steps of a call: what each tells where it refuses, and the grant past them. Assumes nothing.
-use Rattle.std.proofs.Common.{◌≡◌, ℕ, ◌*◌, ◌%◌, ◌^◌, Bool, true, false, List, length, get_or, ltb, eqb, Result, Ok, Err, ◌-◌, ne_eqb, refl, sym, ap, ◌∙◌}
+use Rattle.std.proofs.Common.{◌≡◌, ℕ, ◌*◌, ◌%◌, ◌^◌, Bool, true, false, List, length, get_or, ltb, Result, Ok, Err, ◌-◌, ne_eqb, refl, sym, ap, ◌∙◌}
 use Rattle.std.specs.Prelude.{⊤, Option, Some, None}
 use Rattle.words.specs.Logic.{pick}
-use Rattle.words.specs.Edition.{wide, no_link}
+use Rattle.words.specs.Edition.{wide}
 use Rattle.index.specs.Sizes.{need}
 use Rattle.rules.specs.Calls as rules
 use Rattle.rules.specs.Calls.{Call, Malloc, Free, Realloc, Memalign, Usable, refused, allowed_count, is_in, alignments}
 use Rattle.chunk.specs.declared.access.BlockOff.{BlockOff}
 use Rattle.chunk.specs.declared.access.ChunkOff.{ChunkOff}
-use Rattle.chunk.specs.declared.heap.Heap.{Heap}
 use Rattle.malloc.specs.MallocBytes.{Reply}
-use Rattle.malloc.specs.Granting.{Grants}
+use Rattle.malloc.specs.Granting.{Hands}
 use Rattle.sound.specs.SoundBytes.{count_ok, sound_b, live_b}
 use Rattle.calls.specs.Counts.{count_allowed, plain_need}
-use Rattle.calls.specs.CallBytes.{Told, told, block_at, grant_of, grant_or_no, if_live, if_few}
+use Rattle.calls.specs.CallBytes.{Told, told, grant_or_no, if_live, if_few}
 use Rattle.arena.specs.declared.answers.Reason.{Reason}
-use Rattle.arena.specs.declared.answers.Reason.TheVariants.{BadCount, Unsound, BadAlignment, TooMany, NotLive, NoRoom}
+use Rattle.arena.specs.declared.answers.Reason.TheVariants.{BadCount, Unsound, BadAlignment, TooMany, NotLive}
 use Rattle.arena.specs.Answers.{reason_of, block_answer}
 use Rattle.arena.specs.Refusals.{unless, rows12, row3, row4, row5, row6}
 
@@ -77,18 +76,24 @@ unfolding rows12
 counted r w p = count_allowed (length w) ∙ allowed (allowed_count (length w)) (sound_b wide r w) (sym p)
 
 -- row 6, of what the core has told
-row6_grants : (before after : Heap) (o : Option ChunkOff) (t : Reply) → Grants before after o t
-    → told (block_answer (row6 o)) after.image.now after.words.now ≡ grant_or_no wide t
+row6_grants : (r w : List ℕ) (o : Option ChunkOff) (t : Reply) → Hands o r w t → told (block_answer (row6 o)) r w ≡ grant_or_no wide t
 unfolding row6
-row6_grants before after None t (e, s) = ap (grant_or_no wide) e
-row6_grants before after (Some c) t (n, (e, s)) = sym (rw (ne_eqb c.0 (2 ^ 64 - 1) n) refl) ∙ ap (grant_or_no wide) e
+row6_grants r w None t e = ap (grant_or_no wide) e
+row6_grants r w (Some c) t (n, e) = sym (rw (ne_eqb c.0 (2 ^ 64 - 1) n) refl) ∙ ap (grant_or_no wide) e
+
+-- a block told, as row 6 has it
+pub block_is : {b : BlockOff} {n : ℕ} → b.0 ≡ n → ◌≡◌ {A = Result BlockOff Reason} (Ok b) (Ok (record { 0 = n }))
+block_is e = ap (λ z. Ok (record { 0 = z })) e
 
 module _ (words n : ℕ) {y : ⊤} (p : count_ok words ≡ true) (q : Ok y ≡ row4 words n) where
-  pub granting : (core : ℕ → Reply) (before after : Heap) {m : ℕ} {o : Option ChunkOff} {a : Result BlockOff Reason} → m ≡ need 8 n % 2 ^ 64
-      → Grants before after o (core m) → a ≡ row6 o → told (block_answer a) after.image.now after.words.now ≡ grant_or_no wide (core (need 8 n))
-  granting core before after {m} {o} i j u =
-      ap (λ z. told z after.image.now after.words.now) (ap block_answer u) ∙ row6_grants before after o (core m) j
-      ∙ ap (grant_or_no wide) (ap core (i ∙ plain words n p q))
+  pub granting : (core : ℕ → Reply) {m : ℕ} {r w : List ℕ} (o : Option ChunkOff) {a : Result BlockOff Reason} → m ≡ need 8 n % 2 ^ 64 → Hands o r w (core m)
+      → a ≡ row6 o → told (block_answer a) r w ≡ grant_or_no wide (core (need 8 n))
+  granting core {m} {r} {w} o i j u =
+      ap (λ z. told z r w) (ap block_answer u) ∙ row6_grants r w o (core m) j ∙ ap (grant_or_no wide) (ap core (i ∙ plain words n p q))
+
+-- what was lent to the core has come back as the core left it
+pub came_back : {a : rules.Answer} {r r' w w' : List ℕ} {t : Told} → r ≡ r' → w ≡ w' → told a r' w' ≡ t → told a r w ≡ t
+came_back e f q = rw (e, f) q
 
 -- ---- at a row that refuses, and past one that does not
 

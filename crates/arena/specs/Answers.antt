@@ -2,6 +2,8 @@
 use Rattle.std.specs.Prelude.{ℕ, Result, Ok, Err, ⊤}
 use Rattle.rules.specs.Calls as rules
 use Rattle.chunk.specs.declared.access.BlockOff.{BlockOff}
+use Rattle.rebuild.specs.declared.RebuildError.{RebuildError}
+use Rattle.rebuild.specs.declared.RebuildError.TheVariants as rebuild
 use Rattle.arena.specs.declared.answers.Reason.{Reason}
 use Rattle.arena.specs.declared.answers.Reason.TheVariants.{BadCount, Unsound, BadAlignment, TooMany, NotLive, NoRoom}
 
@@ -12,6 +14,11 @@ reason_of BadAlignment = rules.bad_alignment
 reason_of TooMany = rules.too_many
 reason_of (NotLive b) = rules.not_live b.0
 reason_of NoRoom = rules.no_room
+
+-- the rebuild's refusals, as rows
+abbrev pub reason_from : RebuildError → Reason
+reason_from rebuild.BadCount = BadCount
+reason_from rebuild.Unsound = Unsound
 
 -- what a grant says, or the refusal
 abbrev pub answer_in : {T : Type 0} → (T → rules.Answer) → Result T Reason → rules.Answer

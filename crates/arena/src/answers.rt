@@ -1,10 +1,11 @@
 // What a call answers: what it grants, or the reason of its refusal.
 ghost use Rattle.std.specs.Prelude.{◌≡◌};
 ghost use Rattle.rules.specs.Calls.{number};
-ghost use Rattle.arena.specs.Answers.{reason_of, number_in};
+ghost use Rattle.arena.specs.Answers.{reason_of, reason_from, number_in};
 
 use crate::control::Control;
 use chunk::access::BlockOff;
+use rebuild::RebuildError;
 
 // When the box says no: document 01's six rows, in its order.
 #[derive(Clone, Copy)]
@@ -15,6 +16,18 @@ pub enum Reason {
     TooMany,
     NotLive(BlockOff),
     NoRoom,
+}
+
+// The rebuild's two refusals are rows 1 and 2.
+impl From<RebuildError> for Reason {
+    ghost from_gives = { λ why reason. reason ≡ reason_from why };
+
+    fn from(why: RebuildError) -> Reason {
+        match why {
+            RebuildError::BadCount => Reason::BadCount,
+            RebuildError::Unsound => Reason::Unsound,
+        }
+    }
 }
 
 // Document 01's number of each row.

@@ -5,7 +5,7 @@ ghost use Rattle.calls.specs.Record.{reads, image, numbers_of, empty_control};
 ghost use Rattle.arena.specs.Record.{offsets, copied_up, numbers};
 
 use chunk::access::{ChunkOff, NONE};
-use chunk::image::{DV, DVSIZE, LENGTH, SMALLMAP, TOP, TOPSIZE, TREEMAP, Small, Tree, map};
+use chunk::image::{DV, DVSIZE, LENGTH, SMALLMAP, Small, TOP, TOPSIZE, TREEMAP, Tree, map};
 
 #[derive(Clone, Copy)]
 pub struct Control {

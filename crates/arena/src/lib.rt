@@ -13,7 +13,7 @@ ghost use Rattle.words.specs.Edition.{wide};
 ghost use Rattle.rules.specs.Calls.{Malloc, Free, Realloc, Memalign, Usable};
 ghost use Rattle.lend.specs.LendBytes.{lent, lent_from};
 ghost use Rattle.calls.specs.Record.{image, numbers_of};
-ghost use Rattle.calls.specs.ByValue.{ends, call_a, set_up_a, rebuild_says, rebuild_a};
+ghost use Rattle.calls.specs.ByValue.{ends, call_a, set_up_a, rebuild_a};
 ghost use Rattle.arena.specs.Record.{numbers};
 ghost use Rattle.arena.specs.Answers.{block_answer, done_answer, bytes_answer};
 
@@ -101,24 +101,18 @@ pub fn lend<'a>(c: Control, w: &'a mut [u64], b: BlockOff) -> &'a mut [u64]
     lend::lend(&r, w, b)
 }
 
-// The rebuild's refusal as a reason.
-fn rebuild_says(n: u64) -> Result<(), Reason>
-    ensures { done_answer result ≡ rebuild_says n }
-{
-    match n {
-        0 => Ok(()),
-        1 => Err(Reason::BadCount),
-        _ => Err(Reason::Unsound),
-    }
-}
-
-// The record is lost: a new one, from the arena's words and its start alone.
+// The record is lost: a new one, from the arena's words and its start alone; set-up's empty one where it is refused.
 pub fn rebuild(w: &mut [u64], start: u64) -> Reply<()>
     ensures { ends (done_answer result.answer) (numbers result.control) w.new ≡ rebuild_a wide w.old start }
 {
-    let t = rebuild::rebuild(w, start);
-    Reply {
-        answer: rebuild_says(t.refusal),
-        control: control_of(&t.image),
+    match rebuild::rebuild(w, start) {
+        Ok(r) => Reply {
+            answer: Ok(()),
+            control: control_of(&r),
+        },
+        Err(why) => Reply {
+            answer: Err(Reason::from(why)),
+            control: control_with(NONE, 0, 0),
+        },
     }
 }

@@ -23,16 +23,16 @@ use Rattle.calls.specs.Rebuilds.{Remakes}
 
 -- ---- refused
 
-empty-numbers : (e : Edition) → numbers_of (empty_image e (no_link e) 0 0) ≡ empty_control e (no_link e) 0 0
+pub empty_numbers : (e : Edition) → numbers_of (empty_image e (no_link e) 0 0) ≡ empty_control e (no_link e) 0 0
 unfolding empty_image reads
-empty-numbers e = refl
+empty_numbers e = refl
 
 module _ (e : Edition) (w : List ℕ) (start : ℕ) where
   refused_with : (n : ℕ) → rebuild_b e w start ≡ refuses e n w → rebuild_a e w start ≡ ends (rebuild_says n) (empty_control e (no_link e) 0 0) w
   unfolding rebuild_a
   refused_with n q =
       ap (λ (x : Rebuilt). ends (rebuild_says x.refusal) (numbers_of x.image) x.words) q
-      ∙ ap (λ c. ends (rebuild_says n) c w) (empty-numbers e)
+      ∙ ap (λ c. ends (rebuild_says n) c w) (empty_numbers e)
 
   pub rebuild_count : (count_ok (length w) && allowed_start start) ≡ false
       → rebuild_a e w start ≡ ends (refused bad_count) (empty_control e (no_link e) 0 0) w

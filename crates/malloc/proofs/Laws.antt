@@ -16,8 +16,7 @@ use Rattle.treebin.specs.SearchBytes.{Best, best_above, best_tree}
 use Rattle.treebin.specs.Binning.{insert_chunk, replace_dv}
 use Rattle.chunk.specs.Links.{LeadsTo}
 use Rattle.chunk.specs.declared.access.ChunkOff.{ChunkOff}
-use Rattle.chunk.specs.declared.heap.Heap.{Heap}
-use Rattle.malloc.specs.Granting.{Replies, Grants}
+use Rattle.malloc.specs.Granting.{Hands}
 use Rattle.malloc.specs.MallocBytes.{Reply, reply, settle_b, serve_b, malloc_top, cut_dv, malloc_dv, take_small, take_fuller, take_tree, small_tree, malloc_fuller, malloc_small, malloc_find, malloc_b}
 
 -- ---- a remainder: left with the block, or cut off
@@ -172,8 +171,8 @@ module _ (r w : List ℕ) (nb : ℕ) {a : Reply} where
   need_large l e₁ = rw (le-ltb nb 256 l) e₁
 
 -- what is handed out: the chunk told, unless that is none
-pub granted : (before after : Heap) (told : Reply) (p : ℕ) (o : Option ChunkOff) → LeadsTo p o → Replies before after p told → Grants before after o told
-granted before after told p None e (f, s) = (ap (λ x. reply x after.image.now after.words.now) (sym e) ∙ f, s)
-granted before after told p (Some c) (e, m) (f, s) = ((λ z. m (sym e ∙ z)), (ap (λ x. reply x after.image.now after.words.now) e ∙ f, s))
+pub hands : (r w : List ℕ) (told : Reply) (p : ℕ) (o : Option ChunkOff) → LeadsTo p o → reply p r w ≡ told → Hands o r w told
+hands r w told p None e f = ap (λ x. reply x r w) (sym e) ∙ f
+hands r w told p (Some c) (e, m) f = ((λ z. m (sym e ∙ z)), ap (λ x. reply x r w) e ∙ f)
 
-pub ruleset laws = (granted, whole_image, whole_words, cut_image, cut_words, top_no, top_yes, dv_no, dv_yes, dv_whole, dv_cut, small_taken, fuller_taken, tree_taken, small_none, small_found, find_none, find_only, find-better, find_dv, fuller_yes, fuller_no, own_yes, own_dv, own_no, need_small, need_large)
+pub ruleset laws = (hands, whole_image, whole_words, cut_image, cut_words, top_no, top_yes, dv_no, dv_yes, dv_whole, dv_cut, small_taken, fuller_taken, tree_taken, small_none, small_found, find_none, find_only, find-better, find_dv, fuller_yes, fuller_no, own_yes, own_dv, own_no, need_small, need_large)

@@ -1,5 +1,5 @@
 -- WHAT A CALL HANDS OUT on a heap at work: a chunk, or nothing where the words level says the link that leads nowhere. Assumes nothing.
-use Rattle.std.specs.Prelude.{◌≡◌, ◌≢◌, ℕ, Option, Some, None}
+use Rattle.std.specs.Prelude.{◌≡◌, ◌≢◌, ℕ, List, Option, Some, None}
 use Rattle.words.specs.Edition.{wide, no_link}
 use Rattle.rules.specs.Malloc as rules
 use Rattle.chunk.specs.Running.{Same}
@@ -18,7 +18,10 @@ rest_of Bin = rules.to_bin
 abbrev pub Replies : Heap → Heap → ℕ → Reply → Type 0
 Replies before after answer told = (reply answer after.image.now after.words.now ≡ told) × Same before after
 
--- the same, of a chunk or none
+-- the chunk handed out is the reply's, or nothing where the reply is the link that leads nowhere
+abbrev pub Hands : Option ChunkOff → List ℕ → List ℕ → Reply → Type 0
+Hands None r w told = reply (no_link wide) r w ≡ told
+Hands (Some c) r w told = (c.0 ≢ no_link wide) × (reply c.0 r w ≡ told)
+
 abbrev pub Grants : Heap → Heap → Option ChunkOff → Reply → Type 0
-Grants before after None told = Replies before after (no_link wide) told
-Grants before after (Some c) told = (c.0 ≢ no_link wide) × Replies before after c.0 told
+Grants before after o told = Hands o after.image.now after.words.now told × Same before after

@@ -1,6 +1,6 @@
-use Rattle.std.proofs.Common.{sym, ◌∙◌}
+use Rattle.std.proofs.Common.{sym, ◌∙◌, rules}
 use Rattle.std.proofs.lemmas.Result.{err_from_is_err_and}
-use Rattle.arena.proofs.RefusalLaws.{stop, go}
+use Rattle.arena.proofs.RefusalLaws.{stop, go, came_back}
 use Rattle.arena.proofs.OnImageCode.{freeing, free_rows}
 use Rattle.arena.proofs.on_image.free.Goals as goal
 
@@ -16,5 +16,6 @@ returns-in_err-live c =
 
 pub returns : goal.returns
 returns c =
-    freeing _ _ c.args.b c.from_mem.ensures c.free_chunk.ensures.0 c.free_chunk.ensures.1
-    ∙ sym (go _ _ _ (go _ _ _ (free_rows c.args.r.now c.args.w.now c.args.b) c.in_ok-checked.ensures) c.in_ok-live.ensures)
+    came_back (search rules) (search rules)
+    (freeing _ _ c.args.b c.from_mem.ensures c.free_chunk.ensures.0 c.free_chunk.ensures.1
+    ∙ sym (go _ _ _ (go _ _ _ (free_rows c.args.r.now c.args.w.now c.args.b) c.in_ok-checked.ensures) c.in_ok-live.ensures))

@@ -1,8 +1,8 @@
-use Rattle.std.proofs.Common.{sym, ◌∙◌}
+use Rattle.std.proofs.Common.{rules, sym, ◌∙◌}
 use Rattle.std.proofs.lemmas.Result.{err_from_is_err_and}
 use Rattle.words.specs.Edition.{wide}
 use Rattle.malloc.specs.MallocBytes.{malloc_b}
-use Rattle.arena.proofs.RefusalLaws.{stop, go, counted, granting}
+use Rattle.arena.proofs.RefusalLaws.{stop, go, counted, granting, came_back}
 use Rattle.arena.proofs.OnImageCode.{malloc_rows}
 use Rattle.arena.proofs.on_image.malloc.Goals as goal
 
@@ -18,5 +18,6 @@ returns-in_err-few c =
 
 pub returns : goal.returns
 returns c =
-    granting _ _ (counted _ _ c.in_ok-checked.ensures) c.in_ok-few.ensures (malloc_b wide c.args.r.now c.args.w.now) ? ? c.request2size.ensures c.malloc_chunk.ensures c.granted.ensures
-    ∙ sym (go _ _ _ (go _ _ _ (malloc_rows c.args.r.now c.args.w.now c.args.bytes) c.in_ok-checked.ensures) c.in_ok-few.ensures)
+    came_back (search rules) (search rules)
+    (granting _ _ (counted _ _ c.in_ok-checked.ensures) c.in_ok-few.ensures (malloc_b wide c.args.r.now c.args.w.now) c.malloc_chunk.result c.request2size.ensures c.malloc_chunk.ensures.0 c.granted.ensures
+    ∙ sym (go _ _ _ (go _ _ _ (malloc_rows c.args.r.now c.args.w.now c.args.bytes) c.in_ok-checked.ensures) c.in_ok-few.ensures))

@@ -1,8 +1,8 @@
-use Rattle.std.proofs.Common.{sym, ◌∙◌}
+use Rattle.std.proofs.Common.{rules, sym, ◌∙◌}
 use Rattle.std.proofs.lemmas.Result.{err_from_is_err_and}
 use Rattle.words.specs.Edition.{wide}
 use Rattle.memalign.specs.MemalignBytes.{memalign_b}
-use Rattle.arena.proofs.RefusalLaws.{stop, go, counted, granting}
+use Rattle.arena.proofs.RefusalLaws.{stop, go, counted, granting, came_back}
 use Rattle.arena.proofs.OnImageCode.{memalign_rows}
 use Rattle.arena.proofs.on_image.memalign.Goals as goal
 
@@ -23,5 +23,6 @@ returns-in_err-few c =
 
 pub returns : goal.returns
 returns c =
-    granting _ _ (counted _ _ c.in_ok-checked.ensures) c.in_ok-few.ensures (memalign_b wide c.args.r.now c.args.w.now c.args.alignment) ? ? c.request2size.ensures c.memalign_chunk.ensures c.granted.ensures
-    ∙ sym (go _ _ _ (go _ _ _ (go _ _ _ (memalign_rows c.args.r.now c.args.w.now c.args.alignment c.args.bytes) c.in_ok-checked.ensures) c.in_ok-aligned.ensures) c.in_ok-few.ensures)
+    came_back (search rules) (search rules)
+    (granting _ _ (counted _ _ c.in_ok-checked.ensures) c.in_ok-few.ensures (memalign_b wide c.args.r.now c.args.w.now c.args.alignment) c.memalign_chunk.result c.request2size.ensures c.memalign_chunk.ensures.0 c.granted.ensures
+    ∙ sym (go _ _ _ (go _ _ _ (go _ _ _ (memalign_rows c.args.r.now c.args.w.now c.args.alignment c.args.bytes) c.in_ok-checked.ensures) c.in_ok-aligned.ensures) c.in_ok-few.ensures))

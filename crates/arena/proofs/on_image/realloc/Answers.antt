@@ -1,9 +1,10 @@
-use Rattle.std.proofs.Common.{sym, ap, ◌∙◌}
+use Rattle.std.proofs.Common.{rules, sym, subst, ◌∙◌}
 use Rattle.std.proofs.lemmas.Result.{err_from_is_err_and}
 use Rattle.words.specs.Edition.{wide}
+use Rattle.malloc.specs.Granting.{Hands}
 use Rattle.realloc.specs.ReallocBytes.{realloc_b}
 use Rattle.calls.specs.CallBytes.{chunk_at}
-use Rattle.arena.proofs.RefusalLaws.{stop, go, counted, granting}
+use Rattle.arena.proofs.RefusalLaws.{stop, go, counted, granting, came_back}
 use Rattle.arena.proofs.OnImageCode.{realloc_rows}
 use Rattle.arena.proofs.on_image.realloc.Goals as goal
 
@@ -24,6 +25,8 @@ returns-in_err-live c =
 
 pub returns : goal.returns
 returns c =
-    granting _ _ (counted _ _ c.in_ok-checked.ensures) c.in_ok-few.ensures (realloc_b wide c.args.r.now c.args.w.now (chunk_at wide c.args.b.0)) c.request2size.ensures
-    (c.realloc_chunk-p.ensures ∙ ap (λ z. realloc_b wide c.args.r.now c.args.w.now z c.request2size.result) c.from_mem.ensures) c.granted.ensures
-    ∙ sym (go _ _ _ (go _ _ _ (go _ _ _ (realloc_rows c.args.r.now c.args.w.now c.args.b c.args.bytes) c.in_ok-checked.ensures) c.in_ok-few.ensures) c.in_ok-live.ensures)
+    came_back (search rules) (search rules)
+    (granting _ _ (counted _ _ c.in_ok-checked.ensures) c.in_ok-few.ensures (realloc_b wide c.args.r.now c.args.w.now (chunk_at wide c.args.b.0)) c.realloc_chunk.result c.request2size.ensures
+    (subst (λ z. Hands c.realloc_chunk.result c.realloc_chunk.new.h.image.now c.realloc_chunk.new.h.words.now (realloc_b wide c.args.r.now c.args.w.now z c.request2size.result)) c.from_mem.ensures c.realloc_chunk.ensures.0)
+    c.granted.ensures
+    ∙ sym (go _ _ _ (go _ _ _ (go _ _ _ (realloc_rows c.args.r.now c.args.w.now c.args.b c.args.bytes) c.in_ok-checked.ensures) c.in_ok-few.ensures) c.in_ok-live.ensures))

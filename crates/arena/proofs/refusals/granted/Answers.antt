@@ -1,12 +1,12 @@
-use Rattle.std.proofs.Common.{Ok, refl, ap, eq-eqb, ne_eqb}
-use Rattle.words.specs.Edition.{wide, no_link}
+use Rattle.std.proofs.Common.{refl}
 use Rattle.arena.specs.Refusals.{row6}
+use Rattle.arena.proofs.RefusalLaws.{block_is}
 use Rattle.arena.proofs.refusals.granted.Goals as goal
 
-pub returns-then-p-eq-NONE : goal.returns-then-p-eq-NONE
+pub returns-in-Some : goal.returns-in-Some
 unfolding row6
-returns-then-p-eq-NONE c = rw (eq-eqb c.args.p.0 (no_link wide) c.if-p-eq-NONE.true) refl
+returns-in-Some c = rw c.in-Some.is (block_is c.to_mem.ensures)
 
-pub returns-else-p-eq-NONE : goal.returns-else-p-eq-NONE
+pub returns-in-None : goal.returns-in-None
 unfolding row6
-returns-else-p-eq-NONE c = rw (ne_eqb c.args.p.0 (no_link wide) c.if-p-eq-NONE.false) (ap (λ z. Ok (record { 0 = z })) c.to_mem.ensures)
+returns-in-None c = rw c.in-None.is refl
