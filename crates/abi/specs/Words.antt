@@ -1,17 +1,13 @@
 -- THE CALLS OVER WORDS: the number that each C function returns, and what it leaves in the record's words, in the arena and in the answer's words, for
 -- all inputs. A record of another length than 72 or an answer shorter than 2 is refused with 2 and nothing is written. Assumes nothing.
-use Rattle.std.specs.Prelude.{Bool, ◌&&◌, List, ℕ, ◌/◌, eqb, leb, length, get_or, set, ◌≡◌, Result}
-use Rattle.std.specs.Borrow.{MutBor}
-use Rattle.std.specs.Fn.{Once}
+use Rattle.std.specs.Prelude.{Bool, ◌&&◌, List, ℕ, ◌/◌, eqb, leb, length, get_or, set}
 use Rattle.words.specs.Logic.{pick}
 use Rattle.words.specs.Edition.{wide}
 use Rattle.rules.specs.Calls.{Call, Reason, bad_count, unsound, bad_alignment, too_many, not_live, no_room, Answer, granted, done, bytes, refused, allowed_count}
 use Rattle.sound.specs.SoundBytes.{sound_b}
-use Rattle.calls.specs.CallBytes.{Told, told, refusal, call_b}
+use Rattle.calls.specs.CallBytes.{Told, refusal, call_b}
 use Rattle.calls.specs.Record.{reads, image}
 use Rattle.calls.specs.ByValue.{Ends, set_up_a, rebuild_a}
-use Rattle.arena.specs.declared.answers.Reason as R
-use Rattle.arena.specs.Answers.{answer_in}
 use Rattle.batch.specs.BatchBytes.{Batched, batch_b}
 
 -- the number returned, the record's words, the arena's, the answer's
@@ -55,11 +51,6 @@ copied r = reads (set r 7 0) 0 72
 -- "an eighth word other than 0 is not sound"; row 1 comes first
 unfoldable pub odd_record : ℕ → Answer
 odd_record words = refused (pick (allowed_count words) unsound bad_count)
-
--- whatever the record and the arena are, the call f tells and leaves what `call_b` says of k
-abbrev pub Makes : {T F : Type 0} → (T → Answer) → Once F (MutBor (List ℕ) × (MutBor (List ℕ) × Unit {0})) (Result T R.Reason × (MutBor (List ℕ) × (MutBor (List ℕ) × Unit {0}))) → F → Call → Type 0
-Makes says g f k =
-    (r w r' w' : MutBor (List ℕ)) (a : Result _ R.Reason) → g.post f (r, (w, tt)) (a, (r', (w', tt))) → told (answer_in says a) r'.now w'.now ≡ call_b wide r.now w.now k
 
 abbrev pub tell_c : List ℕ → Told → Said
 tell_c out t = said (refusal t.answer) (copied t.image) t.words (out_of out t.answer)

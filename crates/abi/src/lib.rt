@@ -8,7 +8,8 @@ ghost use Rattle.std.specs.Prelude.{◌≡◌, ◌≤◌, length};
 ghost use Rattle.rules.specs.Calls.{Call, Malloc, Free, Realloc, Memalign, Usable};
 ghost use Rattle.calls.specs.CallBytes.{refusal};
 ghost use Rattle.arena.specs.Answers.{answer_in};
-ghost use Rattle.abi.specs.Words.{lent_ok, copied, said, out_of, Makes, call_c, set_up_c, rebuild_c, sound_c, ran, batch_c};
+ghost use Rattle.arena.specs.Closures.{Makes};
+ghost use Rattle.abi.specs.Words.{lent_ok, copied, said, out_of, call_c, set_up_c, rebuild_c, sound_c, ran, batch_c};
 
 use crate::answer::{Value, odd_record, tell, tell_count};
 use arena::answers::Reason;
