@@ -1,13 +1,11 @@
 -- The C functions: what was lent, the record's words in and out, and one law for each return of a call. Assumes nothing.
-use Rattle.std.proofs.Common.{◌≡◌, ℕ, ◌+◌, ◌/◌, ◌≤◌, Bool, true, false, ◌&&◌, leb, eqb, List, length, get_or, set, Result, Ok, Err, refl, sym, ap, ◌∙◌, arith, eq-eqb, ne_eqb}
-use Rattle.std.specs.Prelude.{⊤}
+use Rattle.std.proofs.Common.{◌≡◌, ℕ, ◌+◌, ◌/◌, ◌≤◌, Bool, true, false, ◌&&◌, leb, eqb, List, length, get_or, set, refl, sym, ap, ◌∙◌, arith, eq-eqb, ne_eqb}
 use borrow.Author.Tests.{leb-true, eqb-true}
 use lib.ListN.{length-set}
 use lib.Seq.{set-get_or}
 use Rattle.words.specs.Logic.{false-true}
 use Rattle.words.specs.Edition.{wide}
-use Rattle.rules.specs.Calls.{Call, Usable, Answer, refused}
-use Rattle.chunk.specs.declared.access.BlockOff.{BlockOff}
+use Rattle.rules.specs.Calls.{Call, Usable, Answer, number, refused}
 use Rattle.sound.specs.SoundBytes.{count_ok, sound_b}
 use Rattle.calls.specs.Counts.{count_allowed}
 use Rattle.calls.specs.CallBytes.{told, refusal, call_b}
@@ -17,10 +15,10 @@ use Rattle.calls.specs.ByValue.{ends, set_up_a, rebuild_a}
 use Rattle.calls.specs.RecordLaws.{reads_all}
 use Rattle.arena.specs.declared.answers.Reason as R
 use Rattle.arena.specs.declared.answers.Reason.TheVariants.{BadCount, Unsound}
-use Rattle.arena.specs.Answers.{reason_of, number_in, block_answer, done_answer, bytes_answer}
+use Rattle.arena.specs.Answers.{reason_of}
 use Rattle.batch.specs.BatchBytes.{batched, batch_m}
 use Rattle.batch.proofs.BatchLaws.{set_batch}
-use Rattle.abi.specs.Words.{said, out_of, told_words, block_value, done_value, lent_ok, copied, odd_record, tell_c, call_c, set_c, set_up_c, rebuild_c, sound_c}
+use Rattle.abi.specs.Words.{said, value_of, refused_value, out_of, lent_ok, copied, odd_record, tell_c, call_c, set_c, set_up_c, rebuild_c, sound_c}
 use Rattle.abi.specs.Words.{ran, answered, count_out, tell_batch, batch_c}
 
 -- ---- what was lent
@@ -56,30 +54,6 @@ copied_is r l = reads_all (set r 7 0) (set r 7 0) 0 72 (simp length-set l)
 
 -- ---- the answer's words
 
--- the number and the two words of a value or a refusal are those of the answer a
-pub record Says (v : Result ℕ R.Reason) (a : Answer) : Type 0 where
-  pub number : number_in v ≡ refusal a
-  pub out : (out : List ℕ) → told_words out v ≡ out_of out a
-
-pub says_refused : (why : R.Reason) → Says (Err why) (refused (reason_of why))
-unfolding out_of
-says_refused why = record { number = refl; out = λ out. refl }
-
-pub says_block : (a : Result BlockOff R.Reason) → Says (block_value a) (block_answer a)
-unfolding out_of
-says_block (Ok b) = record { number = refl; out = λ out. refl }
-says_block (Err why) = record { number = refl; out = λ out. refl }
-
-pub says_done : (a : Result ⊤ R.Reason) → Says (done_value a) (done_answer a)
-unfolding out_of
-says_done (Ok x) = record { number = refl; out = λ out. refl }
-says_done (Err why) = record { number = refl; out = λ out. refl }
-
-pub says_bytes : (a : Result ℕ R.Reason) → Says a (bytes_answer a)
-unfolding out_of
-says_bytes (Ok n) = record { number = refl; out = λ out. refl }
-says_bytes (Err why) = record { number = refl; out = λ out. refl }
-
 module _ (n : ℕ) {x : Bool} (e : x ≡ count_ok n) where
   pub odd_unsound : x ≡ true → refused (reason_of Unsound) ≡ odd_record n
   unfolding odd_record
@@ -103,27 +77,36 @@ module _ (r w out : List ℕ) (k : Call) {x : Bool} (e : x ≡ lent_ok (length r
     spare : get_or s 7 0 ≡ get_or r 7 0
     spare = ap (λ z. get_or z 7 0) same
 
-    pub call_odd : (why : R.Reason) {n : ℕ} {o : List ℕ} → (get_or s 7 0 ≡ 0 → ⊥) → refused (reason_of why) ≡ odd_record (length w) → n ≡ number_in {T = ℕ} (Err why)
-        → o ≡ told_words out (Err why) → said n r w o ≡ call_c r w out k
+    pub call_odd : (a : Answer) {n : ℕ} {o : List ℕ} → (get_or s 7 0 ≡ 0 → ⊥) → a ≡ odd_record (length w) → n ≡ refusal a → o ≡ out_of out a → said n r w o ≡ call_c r w out k
     unfolding call_c
-    call_odd why f i p q =
-        said_same w (p ∙ ap refusal i) refl (q ∙ (says_refused why).out out ∙ ap (out_of out) i) ∙ sym (rw (sym e ∙ t, ne_eqb (get_or r 7 0) 0 (λ z. f (spare ∙ z))) refl)
+    call_odd a f i p q =
+        said_same w (p ∙ ap refusal i) refl (q ∙ ap (out_of out) i) ∙ sym (rw (sym e ∙ t, ne_eqb (get_or r 7 0) 0 (λ z. f (spare ∙ z))) refl)
 
-    pub call_said : {y : Result ℕ R.Reason} {a : Answer} → Says y a → (r' w' : List ℕ) {n : ℕ} {o v : List ℕ} → get_or s 7 0 ≡ 0 → told a r' w' ≡ call_b wide s w k
-        → n ≡ number_in y → v ≡ copied r' → o ≡ told_words out y → said n v w' o ≡ call_c r w out k
+    pub call_said : (a : Answer) (r' w' : List ℕ) {n : ℕ} {o v : List ℕ} → get_or s 7 0 ≡ 0 → told a r' w' ≡ call_b wide s w k → n ≡ refusal a → v ≡ copied r' → o ≡ out_of out a
+        → said n v w' o ≡ call_c r w out k
     unfolding call_c
-    call_said y r' w' z c p v q =
-        said_same w' (p ∙ y.number) v (q ∙ y.out out) ∙ ap (tell_c out) (c ∙ ap (λ y. call_b wide y w k) same)
+    call_said a r' w' z c p v q =
+        said_same w' p v q ∙ ap (tell_c out) (c ∙ ap (λ y. call_b wide y w k) same)
         ∙ sym (rw (sym e ∙ t, eq-eqb (get_or r 7 0) 0 (sym spare ∙ z)) refl)
+
+-- a value's two words
+pub granted_out : (out : List ℕ) (a : Answer) {v : ℕ} → v ≡ value_of a → refusal a ≡ 0 → set (set out 0 0) 1 v ≡ out_of out a
+unfolding out_of
+granted_out out a p q = rw (p, q) refl
+
+pub refused_out : (out : List ℕ) (why : R.Reason) {n v : ℕ} → n ≡ number (reason_of why) → v ≡ refused_value (reason_of why)
+    → set (set out 0 n) 1 v ≡ out_of out (refused (reason_of why))
+unfolding out_of
+refused_out out why p q = rw (p, q) refl
 
 -- 72 words whose eighth is 0 come out as they came in
 copied_same : (r : List ℕ) → length r ≡ 72 → get_or r 7 0 ≡ 0 → r ≡ copied r
 copied_same r l z = sym (ap (set r 7) (sym z) ∙ set-get_or r 7 0) ∙ copied_is r l
 
-pub usable_said : (r w out : List ℕ) (off : ℕ) {x : Bool} (e : x ≡ lent_ok (length r) (length out)) (t : x ≡ true) {s : List ℕ} (same : s ≡ r) (a : Result ℕ R.Reason) {n : ℕ} {o : List ℕ} → get_or s 7 0 ≡ 0
-    → told (bytes_answer a) s w ≡ call_b wide s w (Usable off) → n ≡ number_in a → o ≡ told_words out a → said n r w o ≡ call_c r w out (Usable off)
+pub usable_said : (r w out : List ℕ) (off : ℕ) {x : Bool} (e : x ≡ lent_ok (length r) (length out)) (t : x ≡ true) {s : List ℕ} (same : s ≡ r) (a : Answer) {n : ℕ} {o : List ℕ} → get_or s 7 0 ≡ 0
+    → told a s w ≡ call_b wide s w (Usable off) → n ≡ refusal a → o ≡ out_of out a → said n r w o ≡ call_c r w out (Usable off)
 usable_said r w out off e t {s = s} same a z c p q =
-    call_said r w out (Usable off) e t same (says_bytes a) s w z c p (copied_same r (lent_72 (length r) (length out) e t) (sym (ap (λ y. get_or y 7 0) same) ∙ z) ∙ ap copied (sym same)) q
+    call_said r w out (Usable off) e t same a s w z c p (copied_same r (lent_72 (length r) (length out) e t) (sym (ap (λ y. get_or y 7 0) same) ∙ z) ∙ ap copied (sym same)) q
 
 -- ---- set-up
 
@@ -132,21 +115,20 @@ module _ (r w out : List ℕ) {x : Bool} (e : x ≡ lent_ok (length r) (length o
   unfolding set_up_c
   setup-lost q = sym (rw (sym e ∙ q) refl)
 
-  pub setup-said : x ≡ true → {y : Result ℕ R.Reason} {a : Answer} → Says y a → (d : Control) (w' : List ℕ) {n : ℕ} {m o v : List ℕ} → ends a d w' ≡ set_up_a wide w → m ≡ image d
-      → n ≡ number_in y → v ≡ copied m → o ≡ told_words out y → said n v w' o ≡ set_up_c r w out
+  pub setup-said : x ≡ true → (a : Answer) (d : Control) (w' : List ℕ) {n : ℕ} {m o v : List ℕ} → ends a d w' ≡ set_up_a wide w → m ≡ image d → n ≡ refusal a → v ≡ copied m → o ≡ out_of out a → said n v w' o ≡ set_up_c r w out
   unfolding set_up_c
-  setup-said t y d w' c i p v q =
-      said_same w' (p ∙ y.number) (v ∙ ap copied i) (q ∙ y.out out) ∙ ap (set_c out) c ∙ sym (rw (sym e ∙ t) refl)
+  setup-said t a d w' c i p v q =
+      said_same w' p (v ∙ ap copied i) q ∙ ap (set_c out) c ∙ sym (rw (sym e ∙ t) refl)
 
   module _ (start : ℕ) where
     pub rebuild_lost : x ≡ false → said 2 r w out ≡ rebuild_c r w out start
     unfolding rebuild_c
     rebuild_lost q = sym (rw (sym e ∙ q) refl)
 
-    pub rebuild_said : x ≡ true → {y : Result ℕ R.Reason} {a : Answer} → Says y a → (d : Control) (w' : List ℕ) {n : ℕ} {m o v : List ℕ} → ends a d w' ≡ rebuild_a wide w start
-        → m ≡ image d → n ≡ number_in y → v ≡ copied m → o ≡ told_words out y → said n v w' o ≡ rebuild_c r w out start
+    pub rebuild_said : x ≡ true → (a : Answer) (d : Control) (w' : List ℕ) {n : ℕ} {m o v : List ℕ} → ends a d w' ≡ rebuild_a wide w start
+        → m ≡ image d → n ≡ refusal a → v ≡ copied m → o ≡ out_of out a → said n v w' o ≡ rebuild_c r w out start
     unfolding rebuild_c
-    rebuild_said t y d w' c i p v q = said_same w' (p ∙ y.number) (v ∙ ap copied i) (q ∙ y.out out) ∙ ap (set_c out) c ∙ sym (rw (sym e ∙ t) refl)
+    rebuild_said t a d w' c i p v q = said_same w' p (v ∙ ap copied i) q ∙ ap (set_c out) c ∙ sym (rw (sym e ∙ t) refl)
 
 -- ---- the batch
 
@@ -172,12 +154,11 @@ module _ (r w out cs xs : List ℕ) {x : Bool} (e : x ≡ lent_ok (length r) (le
     first : get_or r 7 0 ≡ get_or s 7 0
     first = ap (λ z. get_or z 7 0) (sym same)
 
-    pub batch_odd : (why : R.Reason) {n : ℕ} {o : List ℕ} → (get_or s 7 0 ≡ 0 → ⊥) → refused (reason_of why) ≡ odd_record (length w)
-        → n ≡ number_in {T = ℕ} (Err why) → o ≡ told_words out (Err why) → ran n r w o xs ≡ batch_c r w out cs xs
+    pub batch_odd : (a : Answer) {n : ℕ} {o : List ℕ} → (get_or s 7 0 ≡ 0 → ⊥) → a ≡ odd_record (length w) → n ≡ refusal a → o ≡ out_of out a
+        → ran n r w o xs ≡ batch_c r w out cs xs
     unfolding batch_c
-    batch_odd why {o = o} f i p q =
-        ap (λ y. ran y r w o xs) (p ∙ ap refusal i)
-        ∙ ap (λ y. ran (refusal (odd_record (length w))) r w y xs) (q ∙ (says_refused why).out out ∙ ap (out_of out) i)
+    batch_odd a {o = o} f i p q =
+        ap (λ y. ran y r w o xs) (p ∙ ap refusal i) ∙ ap (λ y. ran (refusal (odd_record (length w))) r w y xs) (q ∙ ap (out_of out) i)
         ∙ sym (rw (sym e ∙ t, ne_eqb (get_or r 7 0) 0 (λ z. f (sym first ∙ z))) refl)
 
     pub batch_ran : (n : ℕ) (r' w' xs' : List ℕ) {m : ℕ} {o v : List ℕ} → get_or s 7 0 ≡ 0 → batched n r' w' xs' ≡ batch_m wide s w cs xs

@@ -1,16 +1,13 @@
 -- THE CALLS OVER WORDS: the number that each C function returns, and what it leaves in the record's words, in the arena and in the answer's words, for
 -- all inputs. A record of another length than 72 or an answer shorter than 2 is refused with 2 and nothing is written. Assumes nothing.
-use Rattle.std.specs.Prelude.{Bool, ◌&&◌, List, ℕ, ◌/◌, eqb, leb, length, get_or, set, Result, Ok, Err, ⊤}
+use Rattle.std.specs.Prelude.{Bool, ◌&&◌, List, ℕ, ◌/◌, eqb, leb, length, get_or, set}
 use Rattle.words.specs.Logic.{pick}
 use Rattle.words.specs.Edition.{wide}
-use Rattle.rules.specs.Calls.{Call, Reason, bad_count, unsound, bad_alignment, too_many, not_live, no_room, number, Answer, granted, done, bytes, refused, allowed_count}
+use Rattle.rules.specs.Calls.{Call, Reason, bad_count, unsound, bad_alignment, too_many, not_live, no_room, Answer, granted, done, bytes, refused, allowed_count}
 use Rattle.sound.specs.SoundBytes.{sound_b}
 use Rattle.calls.specs.CallBytes.{Told, refusal, call_b}
 use Rattle.calls.specs.Record.{reads, image}
 use Rattle.calls.specs.ByValue.{Ends, set_up_a, rebuild_a}
-use Rattle.chunk.specs.declared.access.BlockOff.{BlockOff}
-use Rattle.arena.specs.declared.answers.Reason as R
-use Rattle.arena.specs.Answers.{reason_of}
 use Rattle.batch.specs.BatchBytes.{Batched, batch_b}
 
 -- the number returned, the record's words, the arena's, the answer's
@@ -41,20 +38,6 @@ value_of (refused why) = refused_value why
 
 unfoldable pub out_of : List ℕ → Answer → List ℕ
 out_of out a = set (set out 0 (refusal a)) 1 (value_of a)
-
--- the same two words, of a value or a refusal
-abbrev pub told_words : List ℕ → Result ℕ R.Reason → List ℕ
-told_words out (Ok v) = set (set out 0 0) 1 v
-told_words out (Err why) = set (set out 0 (number (reason_of why))) 1 (refused_value (reason_of why))
-
--- a block's offset, or a done's 0, as the value
-abbrev pub block_value : Result BlockOff R.Reason → Result ℕ R.Reason
-block_value (Ok b) = Ok b.0
-block_value (Err why) = Err why
-
-abbrev pub done_value : Result ⊤ R.Reason → Result ℕ R.Reason
-done_value (Ok x) = Ok 0
-done_value (Err why) = Err why
 
 -- ---- the calls
 

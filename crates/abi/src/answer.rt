@@ -1,12 +1,14 @@
 // The answer as two words: the refusal's number, 0 where nothing is refused, and the offset or the usable bytes.
 ghost use Rattle.std.specs.Prelude.{◌≡◌, ◌≤◌, length};
-ghost use Rattle.rules.specs.Calls.{refused};
-ghost use Rattle.arena.specs.Answers.{reason_of, number_in};
+ghost use Rattle.rules.specs.Calls.{Answer, granted, done, bytes, refused};
+ghost use Rattle.calls.specs.CallBytes.{refusal};
+ghost use Rattle.arena.specs.Answers.{reason_of, answer_in};
 ghost use Rattle.batch.specs.Whole.{whole_number};
-ghost use Rattle.abi.specs.Words.{refused_value, told_words, odd_record, count_out};
+ghost use Rattle.abi.specs.Words.{value_of, refused_value, out_of, odd_record, count_out};
 
-use arena::answers::{Reason, refusal_of};
+use arena::answers::Reason;
 use batch::whole::WholeRefusal;
+use chunk::access::BlockOff;
 use sound::words_ok;
 
 // Reason 5 carries the offset that it was asked about.
@@ -19,15 +21,51 @@ fn refused_value(why: Reason) -> u64
     }
 }
 
-// A value, or a refusal, and the number that C gets back.
-pub fn tell(out: &mut [u64], answer: Result<u64, Reason>) -> u64
+// What a call grants, as the word that C reads beside a 0.
+pub trait Value: Copy {
+    ghost says: { Self → Answer };
+
+    fn value(self) -> u64
+        ensures value { result ≡ value_of (says self) }
+        ensures granted { refusal (says self) ≡ 0 };
+}
+
+impl Value for BlockOff {
+    ghost says = { λ b. granted b.0 };
+
+    fn value(self) -> u64 {
+        self.0
+    }
+}
+
+impl Value for () {
+    ghost says = { λ x. done };
+
+    fn value(self) -> u64 {
+        0
+    }
+}
+
+impl Value for u64 {
+    ghost says = { λ n. bytes n };
+
+    fn value(self) -> u64 {
+        self
+    }
+}
+
+// The answer's two words, and the number that C gets back.
+pub fn tell<T: Value>(out: &mut [u64], answer: Result<T, Reason>) -> u64
     requires { 2 ≤ length out.old }
-    ensures number { result ≡ number_in answer }
-    ensures out { out.new ≡ told_words out.old answer }
+    ensures number { result ≡ refusal (answer_in T.says answer) }
+    ensures out { out.new ≡ out_of out.old (answer_in T.says answer) }
 {
-    let n = refusal_of(&answer);
+    let (n, value) = match answer {
+        Ok(granted) => (0, granted.value()),
+        Err(why) => (u64::from(why), refused_value(why)),
+    };
     out[0] = n;
-    out[1] = answer.unwrap_or_else(refused_value);
+    out[1] = value;
     n
 }
 

@@ -5,11 +5,13 @@
 mod answer;
 
 ghost use Rattle.std.specs.Prelude.{◌≡◌, ◌≤◌, length};
-ghost use Rattle.rules.specs.Calls.{Malloc, Free, Realloc, Memalign, Usable};
-ghost use Rattle.arena.specs.Answers.{number_in};
-ghost use Rattle.abi.specs.Words.{lent_ok, copied, said, told_words, call_c, set_up_c, rebuild_c, sound_c, ran, batch_c};
+ghost use Rattle.rules.specs.Calls.{Call, Malloc, Free, Realloc, Memalign, Usable};
+ghost use Rattle.calls.specs.CallBytes.{refusal};
+ghost use Rattle.arena.specs.Answers.{answer_in};
+ghost use Rattle.arena.specs.Closures.{Makes};
+ghost use Rattle.abi.specs.Words.{lent_ok, copied, said, out_of, call_c, set_up_c, rebuild_c, sound_c, ran, batch_c};
 
-use crate::answer::{odd_record, tell, tell_count};
+use crate::answer::{Value, odd_record, tell, tell_count};
 use arena::answers::Reason;
 use arena::control::image_of;
 use arena::on_image;
@@ -47,15 +49,41 @@ fn copy_out(r: &mut [u64; 72], rec: &mut [u64])
 }
 
 // The record's words and the answer's, written.
-fn hand_out(rec: &mut [u64], r: &mut [u64; 72], out: &mut [u64], a: Result<u64, Reason>) -> u64
+fn hand_out<T: Value>(
+    rec: &mut [u64],
+    r: &mut [u64; 72],
+    out: &mut [u64],
+    a: Result<T, Reason>,
+) -> u64
     requires rec_len { length rec.old ≡ 72 }
     requires out_len { 2 ≤ length out.old }
-    ensures number { result ≡ number_in a }
+    ensures number { result ≡ refusal (answer_in T.says a) }
     ensures rec { rec.new ≡ copied r.old }
-    ensures out { out.new ≡ told_words out.old a }
+    ensures out { out.new ≡ out_of out.old (answer_in T.says a) }
 {
     copy_out(r, rec);
     tell(out, a)
+}
+
+// A call on the record that was lent, and its answer. A record whose eighth word is not 0 is refused.
+fn on_record<T: Value, F: FnOnce(&mut [u64; 72], &mut [u64]) -> Result<T, Reason>>(
+    rec: &mut [u64],
+    w: &mut [u64],
+    out: &mut [u64],
+    call: F,
+) -> u64
+    requires { F.IsAlwaysCallable call }
+    ensures { (k : Call) → Makes T.says F.FnOnce call k → said result rec.new w.new out.new ≡ call_c rec.old w.old out.old k }
+{
+    if !lent_ok(rec.len(), out.len()) {
+        return 2;
+    }
+    let mut r = image_in(rec);
+    if r[SPARE] != 0 {
+        return tell::<T>(out, Err(odd_record(w)));
+    }
+    let a = call(&mut r, w);
+    hand_out(rec, &mut r, out, a)
 }
 
 // ---- the calls
@@ -68,7 +96,7 @@ pub fn nuka_setup(rec: &mut [u64], w: &mut [u64], out: &mut [u64]) -> u64
     }
     let x = arena::setup(w);
     let mut r = image_of(x.control);
-    hand_out(rec, &mut r, out, x.answer.map(|()| 0))
+    hand_out(rec, &mut r, out, x.answer)
 }
 
 // The record that was lent is written, not read.
@@ -81,49 +109,30 @@ pub fn nuka_rebuild(rec: &mut [u64], w: &mut [u64], out: &mut [u64], start: u64)
     }
     let x = arena::rebuild(w, start);
     let mut r = image_of(x.control);
-    hand_out(rec, &mut r, out, x.answer.map(|()| 0))
+    hand_out(rec, &mut r, out, x.answer)
 }
 
 pub fn nuka_malloc(rec: &mut [u64], w: &mut [u64], out: &mut [u64], bytes: u64) -> u64
     ensures { said result rec.new w.new out.new ≡ call_c rec.old w.old out.old (Malloc bytes) }
 {
-    if !lent_ok(rec.len(), out.len()) {
-        return 2;
-    }
-    let mut r = image_in(rec);
-    if r[SPARE] != 0 {
-        return tell(out, Err(odd_record(w)));
-    }
-    let a = on_image::malloc(&mut r, w, bytes);
-    hand_out(rec, &mut r, out, a.map(|b| b.0))
+    on_record(rec, w, out, |r, w| on_image::malloc(r, w, bytes))
 }
 
 pub fn nuka_free(rec: &mut [u64], w: &mut [u64], out: &mut [u64], offset: u64) -> u64
     ensures { said result rec.new w.new out.new ≡ call_c rec.old w.old out.old (Free offset) }
 {
-    if !lent_ok(rec.len(), out.len()) {
-        return 2;
-    }
-    let mut r = image_in(rec);
-    if r[SPARE] != 0 {
-        return tell(out, Err(odd_record(w)));
-    }
-    let a = on_image::free(&mut r, w, BlockOff(offset));
-    hand_out(rec, &mut r, out, a.map(|()| 0))
+    on_record(rec, w, out, |r, w| on_image::free(r, w, BlockOff(offset)))
 }
 
 pub fn nuka_realloc(rec: &mut [u64], w: &mut [u64], out: &mut [u64], offset: u64, bytes: u64) -> u64
     ensures { said result rec.new w.new out.new ≡ call_c rec.old w.old out.old (Realloc offset bytes) }
 {
-    if !lent_ok(rec.len(), out.len()) {
-        return 2;
-    }
-    let mut r = image_in(rec);
-    if r[SPARE] != 0 {
-        return tell(out, Err(odd_record(w)));
-    }
-    let a = on_image::realloc(&mut r, w, BlockOff(offset), bytes);
-    hand_out(rec, &mut r, out, a.map(|b| b.0))
+    on_record(
+        rec,
+        w,
+        out,
+        |r, w| on_image::realloc(r, w, BlockOff(offset), bytes),
+    )
 }
 
 pub fn nuka_memalign(
@@ -135,15 +144,12 @@ pub fn nuka_memalign(
 ) -> u64
     ensures { said result rec.new w.new out.new ≡ call_c rec.old w.old out.old (Memalign alignment bytes) }
 {
-    if !lent_ok(rec.len(), out.len()) {
-        return 2;
-    }
-    let mut r = image_in(rec);
-    if r[SPARE] != 0 {
-        return tell(out, Err(odd_record(w)));
-    }
-    let a = on_image::memalign(&mut r, w, alignment, bytes);
-    hand_out(rec, &mut r, out, a.map(|b| b.0))
+    on_record(
+        rec,
+        w,
+        out,
+        |r, w| on_image::memalign(r, w, alignment, bytes),
+    )
 }
 
 pub fn nuka_usable(rec: &[u64], w: &[u64], out: &mut [u64], offset: u64) -> u64
@@ -154,7 +160,7 @@ pub fn nuka_usable(rec: &[u64], w: &[u64], out: &mut [u64], offset: u64) -> u64
     }
     let r = image_in(rec);
     if r[SPARE] != 0 {
-        return tell(out, Err(odd_record(w)));
+        return tell::<u64>(out, Err(odd_record(w)));
     }
     tell(out, on_image::usable(&r, w, BlockOff(offset)))
 }
@@ -175,7 +181,7 @@ pub fn nuka_batch(
     }
     let mut r = image_in(rec);
     if r[SPARE] != 0 {
-        return tell(out, Err(odd_record(w)));
+        return tell::<u64>(out, Err(odd_record(w)));
     }
     let whole = batch_on_image(&mut r, w, calls, answers);
     copy_out(&mut r, rec);

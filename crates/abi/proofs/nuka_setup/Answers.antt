@@ -1,7 +1,4 @@
-use Rattle.std.proofs.Common.{◌≡◌, rules}
-use Rattle.arena.specs.Answers.{done_answer}
-use Rattle.abi.specs.Words.{done_value}
-use Rattle.abi.proofs.AbiCode.{Says, says_done, lent_72, lent_2, setup-lost, setup-said}
+use Rattle.abi.proofs.AbiCode.{lent_72, lent_2, setup-lost, setup-said}
 use Rattle.abi.proofs.nuka_setup.Goals as goal
 
 pub returns-then-not-lent_ok : goal.returns-then-not-lent_ok
@@ -15,7 +12,5 @@ hand_out-requires c = record {
 
 pub returns : goal.returns
 returns c =
-    let e : c.map.result ≡ done_value c.setup-x.result.answer = search rules in
-    setup-said _ _ _ c.lent_ok.ensures c.if-not-lent_ok.false
-    (let s : Says c.map.result (done_answer c.setup-x.result.answer) = rw e (says_done _) in s) _ _ c.setup-x.ensures c.image_of-r.ensures
+    setup-said _ _ _ c.lent_ok.ensures c.if-not-lent_ok.false _ _ _ c.setup-x.ensures c.image_of-r.ensures
     c.hand_out.ensures.number c.hand_out.ensures.rec c.hand_out.ensures.out
