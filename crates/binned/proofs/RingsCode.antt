@@ -1,4 +1,4 @@
--- Rings and tree members: one law for each return, what the tests and the callees have told put together as the definition says it. Assumes nothing.
+-- Rings: one law for each way out of the walk, and one for a turn. Assumes nothing.
 use mathlib.Core.Bool.{Bool, true, false}
 use mathlib.Core.List.{List}
 use mathlib.Core.Path.{◌≡◌, refl, sym, ap, ◌∙◌}

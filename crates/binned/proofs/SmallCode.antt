@@ -1,4 +1,4 @@
--- The spare chunk and the small bins: one law for each return, what the tests and the callees have told put together as the definition says it. Assumes nothing.
+-- The lists of the small bins, and the loop over 32 bins: one law for each way out of a loop, and one for a turn. Assumes nothing.
 use mathlib.Core.Bool.{Bool, true, false}
 use mathlib.Core.List.{List}
 use mathlib.Core.Path.{◌≡◌, refl, sym, ap, ◌∙◌}

@@ -1,5 +1,5 @@
--- Trees: one law for each return, what the tests and the callees have told put together as the definition says it; and that the sizes of the
--- members above are the same again when a tree has been found right. Assumes nothing.
+-- Trees: one law for each way out of a tree, what the tests and the callees have told put together as the definition says it; and that the
+-- sizes of the members above are the same again when a tree has been found right. Assumes nothing.
 use mathlib.Core.Bool.{Bool, true, false, ◌&&◌}
 use mathlib.Core.List.{List}
 use mathlib.Core.Logic.{⊎_elim}

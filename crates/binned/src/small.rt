@@ -9,7 +9,7 @@ use chunk::image::{DV, DVSIZE, SMALLMAP, Small, bin_at};
 use marks::{Marks, TURNS};
 use tiles::head_is;
 
-#[tactic(auto, using(marks::specs::Marks::answer), unfolding(crate::specs::BinsBytes::dv_ok))]
+#[tactic(auto, unfolding(crate::specs::BinsBytes::dv_ok))]
 pub fn dv_ok(r: &[u64; 72], w: &[u64], m: &mut Marks) -> bool
     ensures { checked result m.new ≡ dv_ok wide r.now w.now m.old }
 {

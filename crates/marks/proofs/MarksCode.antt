@@ -1,4 +1,4 @@
--- Sets of granules: one law for each return, what the tests and the callees have told put together as the definition says it. Assumes nothing.
+-- Sets of granules: a bit of a number of 64, set and cleared; the place of a granule; the empty set. Assumes nothing.
 use mathlib.Core.Bool.{Bool, true, false, ◌&&◌}
 use mathlib.Core.List.{List}
 use mathlib.Core.Path.{◌≡◌, refl, sym, ap, ◌∙◌}

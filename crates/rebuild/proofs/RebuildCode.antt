@@ -1,5 +1,5 @@
--- The rebuild's code: one law for each return, what the tests and the callees have told put together as the definition says it. Over the
--- edition. Assumes nothing.
+-- The rebuild's two walks: one law for each way out of a loop, and one for a turn; and what a top that was found says. Over the edition.
+-- Assumes nothing.
 use mathlib.Core.Bool.{Bool, true, false}
 use mathlib.Core.List.{List}
 use mathlib.Core.Path.{◌≡◌, refl, sym, ap, ◌∙◌, subst}

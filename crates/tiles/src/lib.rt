@@ -2,9 +2,8 @@
 #![tactic(auto)]
 
 ghost use Rattle.std.specs.Prelude.{◌≡◌, true};
-ghost use Rattle.words.specs.Logic.{pick};
 ghost use Rattle.words.specs.Edition.{wide};
-ghost use Rattle.marks.specs.Marks.{set_mark, checked, turns};
+ghost use Rattle.marks.specs.Marks.{checked, turns};
 ghost use Rattle.tiles.specs.TilesBytes.{head_is, top_ok, tile_of, used_flags, room_for, free_ok, chunk_at, walk_heads};
 
 use chunk::access::{ChunkOff, get};
@@ -78,15 +77,6 @@ pub fn chunk_at(w: &[u64], p: u64, pu: bool, top: u64) -> Option<Tile>
     }
 }
 
-// A free chunk is marked.
-fn note(m: &mut Marks, p: u64, used: bool)
-    ensures { m.new ≡ pick used m.old (set_mark wide m.old p) }
-{
-    if !used {
-        m.insert(p);
-    }
-}
-
 // Chunks tile 0 to the top, the last of them in use; the free ones are marked.
 #[tactic(auto, using(crate::proofs::TilesCode::laws))]
 pub fn walk(w: &[u64], top: u64, m: &mut Marks) -> bool
@@ -101,7 +91,9 @@ pub fn walk(w: &[u64], top: u64, m: &mut Marks) -> bool
         let Some(t) = chunk_at(w, p, pu, top) else {
             return false;
         };
-        note(m, p, t.used);
+        if !t.used {
+            m.insert(p);
+        }
         p += t.size;
         pu = t.used;
     }
