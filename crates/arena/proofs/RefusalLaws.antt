@@ -62,7 +62,7 @@ allowed : (a b : Bool) {x : ⊤} → pick a (unless b Unsound) (Err BadCount) �
 allowed true b q = refl
 allowed false b q = absurd (let z : ⊥ = cc in z)
 
-is_few : (b : Bool) {x : ⊤} → pick b (Err TooMany) (Ok tt) ≡ Ok x → b ≡ false
+pub is_few : (b : Bool) {x : ⊤} → pick b (Err TooMany) (Ok tt) ≡ Ok x → b ≡ false
 is_few true q = absurd (let z : ⊥ = cc in z)
 is_few false q = refl
 

@@ -1,9 +1,10 @@
 -- ONE LINE of the list: the call that three words name, and the two words that answer it. Assumes nothing.
-use Rattle.std.specs.Prelude.{List, ℕ, eqb, Result, Ok, Err, ⊤}
+use Rattle.std.specs.Prelude.{◌≢◌, List, ℕ, eqb, Option, Some, None, Result, Ok, Err, ⊤}
 use Rattle.words.specs.Logic.{pick}
-use Rattle.words.specs.Edition.{wide}
+use Rattle.words.specs.Edition.{wide, no_link}
 use Rattle.rules.specs.Calls as rules
 use Rattle.chunk.specs.declared.access.BlockOff.{BlockOff}
+use Rattle.chunk.specs.declared.access.ChunkOff.{ChunkOff}
 use Rattle.marks.specs.Marks.{has_mark}
 use Rattle.calls.specs.CallBytes.{refusal}
 use Rattle.arena.specs.declared.answers.Reason.{Reason}
@@ -38,6 +39,15 @@ number_of UnknownKind = 9
 -- row 5, by the set of live blocks
 unfoldable pub known_row : List ℕ → BlockOff → Result ⊤ Reason
 known_row live b = unless (has_mark wide live b.0) (NotLive b)
+
+-- the core's answer as a link, and that it leads somewhere where it is a chunk
+abbrev pub link_of : Option ChunkOff → ℕ
+link_of None = no_link wide
+link_of (Some c) = c.0
+
+abbrev pub Known : Option ChunkOff → Type 0
+Known None = ⊤
+Known (Some c) = c.0 ≢ no_link wide
 
 -- a line's two words
 abbrev pub line_number : Result ℕ Refusal → ℕ

@@ -1,4 +1,7 @@
-use Rattle.std.proofs.Common.{rules}
+use Rattle.std.proofs.Common.{rules, get_or, ap, ◌∙◌}
+use Rattle.words.specs.Edition.{wide}
+use Rattle.marks.specs.Marks.{turns}
+use Rattle.live.specs.LiveBytes.{live_from}
 use Rattle.batch.proofs.BatchCode.{batch_count, batch_unsound, batch_lists, batch_ran, from_loan, lists_room}
 use Rattle.batch.proofs.batch_on_image.Goals as goal
 
@@ -20,5 +23,6 @@ all-requires-clause-answers_room c = (lists_room _ _ c.lists_fit.ensures c.if-no
 pub returns : goal.returns
 returns c =
     let v = batch_ran _ _ _ _ c.words_ok.ensures c.if-not-words_ok.false c.sound.ensures c.if-not-sound.false
-    c.lists_fit.ensures c.if-not-lists_fit.false c.fill.ensures c.all.ensures.runs in
+    c.lists_fit.ensures c.if-not-lists_fit.false
+    (c.fill.ensures ∙ ap (live_from wide c.args.w.now (get_or c.args.r.now 4 0) turns 0) c.new-live.ensures) c.all.ensures.runs in
     from_loan v (search rules) (search rules)

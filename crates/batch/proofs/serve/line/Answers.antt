@@ -1,6 +1,6 @@
 use Rattle.std.proofs.lemmas.Result.{err_from_is_err_and}
 use Rattle.batch.proofs.BatchCode.{line_unknown, line_made}
-use Rattle.batch.proofs.heap.Heap.line.Goals as goal
+use Rattle.batch.proofs.serve.line.Goals as goal
 
 pub returns-in_err-call-clause-call : goal.returns-in_err-call-clause-call
 returns-in_err-call-clause-call c =
