@@ -1,10 +1,9 @@
--- Sets of granules: a bit of a number of 64, set and cleared; the place of a granule; the empty set. Assumes nothing.
+-- Sets of granules: the place of a granule; the empty set. Assumes nothing.
 use mathlib.Core.Bool.{Bool, true, false, ◌&&◌}
 use mathlib.Core.List.{List}
-use mathlib.Core.Path.{◌≡◌, refl, sym, ap, ◌∙◌}
-use Prim.Native.Nat.{ℕ, zero, suc, ◌+◌, ◌-◌, ◌*◌, ◌/◌, ◌%◌, ◌^◌, ◌<◌}
+use mathlib.Core.Path.{◌≡◌, refl, sym, ◌∙◌}
+use Prim.Native.Nat.{ℕ, zero, suc, ◌+◌, ◌*◌, ◌/◌, ◌%◌, ◌<◌}
 use native.Mathlib.Omega.{arith}
-use lib.Bits.{bit_or, bit_and}
 use lib.Dec.{eqb, ltb}
 use lib.ListN.{length, drop}
 use Rattle.std.specs.List.{list_all}
@@ -14,17 +13,7 @@ use Rattle.std.proofs.Common.{add-one}
 use borrow.Author.Tests.{ltb-true}
 use Rattle.words.specs.Logic.{false-true}
 use Rattle.words.specs.Edition.{wide}
-use Rattle.index.specs.BinMap.{mark, clear}
-use Rattle.index.specs.BinMapLaws.{or_marks, and_clears}
-use Rattle.index.specs.Words.{one_shl}
 use Rattle.marks.specs.Marks.{mark_words, holdable, empty_from, is_empty}
-
--- one bit of a number of 64
-pub with_bit : (n i : ℕ) → bit_or n ((1 * 2 ^ (i % 64)) % 2 ^ 64) ≡ mark (i % 64) n
-with_bit n i = ap (bit_or n) (one_shl 64 (i % 64) (omega arith)) ∙ or_marks (i % 64) n
-
-pub without_bit : (n i : ℕ) → n < 2 ^ 64 → bit_and n (2 ^ 64 - 1 - (1 * 2 ^ (i % 64)) % 2 ^ 64) ≡ clear (i % 64) n
-without_bit n i l = ap (λ x. bit_and n (2 ^ 64 - 1 - x)) (one_shl 64 (i % 64) (omega arith)) ∙ and_clears 64 (i % 64) n (omega arith) l
 
 module _ (off : ℕ) where
   held_lt : holdable wide off ≡ true → off / 16 < 64 * mark_words

@@ -4,9 +4,9 @@
 
 ghost use Rattle.std.specs.Prelude.{◌≡◌, ◌%◌};
 ghost use Rattle.words.specs.Edition.{wide};
-ghost use Rattle.index.specs.BinMap.{mark, clear};
 ghost use Rattle.marks.specs.Marks.{holdable, held_bit, has_mark, lacks_mark, set_mark, drop_mark, checked, take_mark, no_marks, is_empty};
 
+use index::bin_map::{with_bit, without_bit};
 use std::marker::Model;
 
 // The size of every set: a granule for each 2 words of the largest arena.
@@ -36,20 +36,6 @@ fn holdable(off: u64) -> bool
     ensures { result ≡ holdable wide off }
 {
     off % 16 == 0 && off / 16 < GRANULES
-}
-
-#[tactic(auto, using(crate::proofs::MarksCode::with_bit))]
-fn with_bit(n: u64, i: u64) -> u64
-    ensures { result ≡ mark (i % 64) n }
-{
-    n | (1 << (i % 64))
-}
-
-#[tactic(auto, using(crate::proofs::MarksCode::without_bit))]
-fn without_bit(n: u64, i: u64) -> u64
-    ensures { result ≡ clear (i % 64) n }
-{
-    n & !(1 << (i % 64))
 }
 
 impl Marks {
@@ -96,7 +82,7 @@ impl Marks {
     {
         if holdable(off) {
             let k = (off / 16 / 64) as usize;
-            self.words[k] = with_bit(self.words[k], off / 16);
+            self.words[k] = with_bit::<64>(self.words[k], off / 16);
         }
     }
 
@@ -106,7 +92,7 @@ impl Marks {
     {
         if holdable(off) {
             let k = (off / 16 / 64) as usize;
-            self.words[k] = without_bit(self.words[k], off / 16);
+            self.words[k] = without_bit::<64>(self.words[k], off / 16);
         }
     }
 
