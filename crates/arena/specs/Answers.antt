@@ -20,6 +20,19 @@ abbrev pub reason_from : RebuildError → Reason
 reason_from rebuild.BadCount = BadCount
 reason_from rebuild.Unsound = Unsound
 
+-- what any of the calls' results may say, in the code's own offsets and reasons
+pub data Answer : Type 0 where
+  Granted : BlockOff → Answer
+  Done : Answer
+  Bytes : ℕ → Answer
+  Refused : Reason → Answer
+
+abbrev pub answer_of : Answer → rules.Answer
+answer_of (Granted b) = rules.granted b.0
+answer_of Done = rules.done
+answer_of (Bytes n) = rules.bytes n
+answer_of (Refused why) = rules.refused (reason_of why)
+
 -- what a grant says, or the refusal
 abbrev pub answer_in : {T : Type 0} → (T → rules.Answer) → Result T Reason → rules.Answer
 answer_in says (Ok x) = says x
