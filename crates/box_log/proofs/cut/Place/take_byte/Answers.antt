@@ -1,12 +1,12 @@
 use Rattle.std.proofs.Common.{rules}
 use Rattle.box_log.proofs.CutCode.{laws}
-use Rattle.box_log.proofs.cut.take_byte.Goals as goal
+use Rattle.box_log.proofs.cut.Place.take_byte.Goals as goal
 
-pub returns-then-not-cr-clause-line_after : goal.returns-then-not-cr-clause-line_after
-returns-then-not-cr-clause-line_after c = search (laws, rules)
+pub returns-then-not-self-clause-line_after : goal.returns-then-not-self-clause-line_after
+returns-then-not-self-clause-line_after c = search (laws, rules)
 
-pub returns-then-not-cr-clause-value : goal.returns-then-not-cr-clause-value
-returns-then-not-cr-clause-value c = search (laws, rules)
+pub returns-then-not-self-clause-value : goal.returns-then-not-self-clause-value
+returns-then-not-self-clause-value c = search (laws, rules)
 
 pub returns-then-b-eq10-clause-line_after : goal.returns-then-b-eq10-clause-line_after
 returns-then-b-eq10-clause-line_after c = search (laws, rules)

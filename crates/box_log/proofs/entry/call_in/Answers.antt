@@ -1,12 +1,12 @@
 use Rattle.std.proofs.Common.{rules}
 use Rattle.box_log.proofs.EntryCode.{laws}
-use Rattle.box_log.proofs.entry.read.Goals as goal
+use Rattle.box_log.proofs.entry.call_in.Goals as goal
 
 pub returns-then-s-gt64 : goal.returns-then-s-gt64
 returns-then-s-gt64 c = search (laws, rules)
 
-pub returns-then-k-s : goal.returns-then-k-s
-returns-then-k-s c = search (laws, rules)
+pub returns-in_err-k : goal.returns-in_err-k
+returns-in_err-k c = search (laws, rules)
 
 pub returns : goal.returns
 returns c = search (laws, rules)
