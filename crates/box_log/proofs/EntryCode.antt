@@ -1,15 +1,19 @@
 -- Reading a record: one law for each return and each turn of a loop, what the tests and the callees have told put together as the
 -- definition says it. Assumes nothing.
-use Rattle.std.proofs.Common.{◌≡◌, ℕ, suc, ◌+◌, ◌-◌, ◌*◌, ◌≤◌, ◌<◌, Bool, true, false, ◌&&◌, ⊎_elim, cond, eqb, leb, ltb, List, [], ◌∷◌, length, take, drop, Option, Some, None, refl, sym, ap, ◌∙◌, arith, lt-ltb, le-ltb, ne_eqb, add-one, get_or, drop-cons, drop_of_length-le, length-drop, le-leb, ltb-true, ltb-false}
+use Rattle.std.proofs.Common.{◌≡◌, ℕ, suc, ◌+◌, ◌-◌, ◌*◌, ◌≤◌, ◌<◌, Bool, true, false, ⊎_elim, cond, eqb, leb, ltb, List, [], ◌∷◌, length, take, drop, Option, Some, None, Result, Ok, Err, subst, refl, sym, ap, ◌∙◌, arith, lt-ltb, le-ltb, ne_eqb, add-one, get_or, drop-cons, drop_of_length-le, length-drop, le-leb, ltb-true, ltb-false}
 use Rattle.std.proofs.Math.Seq.{take_all}
 use Rattle.std.proofs.lemmas.Bool.{lt-leb}
 use Rattle.std.proofs.lemmas.Option.{none-some, same_Some}
-use Rattle.std.specs.Cmp.Lexicographic.{pointwise}
+use Rattle.std.specs.Result.{MatchResult, result_ok}
+use Rattle.std.specs.Str.{IsUtf8}
+use denote.Ref.{Bor}
+use lib.Utf8.{encode}
 use Rattle.std.specs.List.{position_or_len}
 use Rattle.std.proofs.lemmas.List.Recursion.{is_position_or_len}
 use Rattle.words.specs.Logic.{pick, by, lt_or_le}
 use Rattle.box_log.specs.Decimals.{none, fresh, is_digit, grown, digit_read, number_from, number_of}
 use Rattle.box_log.proofs.DecimalLaws.{from_none, digit_is}
+use Rattle.box_log.proofs.GrammarLaws.{same_bytes_lem}
 use Rattle.box_log.specs.Grammar.{setup, malloc, free, realloc, memalign, comma, same_bytes, comma_at, cut_at, kind_of, one_number, two_numbers}
 use Rattle.box_log.specs.Grammar.{called, read_record}
 use Rattle.box_log.specs.Found.{below, digit_of, both, two_numbers_of, or_odd}
@@ -189,43 +193,57 @@ module _ (s : List ℕ) where
 
 -- ---- call: the name, then what stands behind it
 
-same_is : (xs ys : List ℕ) → pointwise eqb xs ys ≡ same_bytes xs ys
-same_is [] [] = refl
-same_is [] (y ∷ ys) = refl
-same_is (x ∷ xs) [] = refl
-same_is (x ∷ xs) (y ∷ ys) = ap (λ t. eqb x y && t) (same_is xs ys)
+-- the name's bytes as text
+pub text_is : {E : Type 0} (Q : Type 0) {name : List ℕ} (P : E → Type 0) (r : Result (Bor (List ℕ)) E) (t : Bor (List ℕ))
+    → MatchResult r (λ s. (s.now ≡ name) × Q) P → Some t ≡ result_ok r → t.now ≡ name
+text_is Q P (Ok s) t m q = ap (λ x. x.now) (same_Some t s q) ∙ m.0
+text_is Q P (Err e) t m q = absurd (none-some t (sym q))
+
+no_text : {E U : Type 0} (F : Bor (List ℕ) → Type 0) (V : E → Type 0) (r : Result (Bor (List ℕ)) E)
+    → MatchResult r F (λ e. (U → ⊥) × V e) → None ≡ result_ok r → U → ⊥
+no_text F V (Ok s) m q = absurd (none-some s q)
+no_text F V (Err e) m q = m.0
 
 module _ (name : List ℕ) where
-  pub name_tested : {t : Bool} {x : List ℕ} (text : List ℕ) → t ≡ pointwise eqb name x → x ≡ text → t ≡ same_bytes name text
-  name_tested text q e = q ∙ ap (pointwise eqb name) e ∙ same_is name text
+  another : (text : List ℕ) → (name ≡ text → ⊥) → same_bytes name text ≡ false
+  another text n = by (λ t. same_bytes name text ≡ t → t ≡ false) (same_bytes name text)
+      (λ z w. absurd (n (same_bytes_lem name text w))) (λ z w. refl) refl
 
-  pub kind_setup : true ≡ same_bytes name setup → kind_of name ≡ 1
+  none_named : (name ≡ setup → ⊥) → (name ≡ malloc → ⊥) → (name ≡ free → ⊥) → (name ≡ realloc → ⊥) → (name ≡ memalign → ⊥) → kind_of name ≡ 0
   unfolding kind_of
-  kind_setup q = rw (sym q) refl
+  none_named a b c d e = rw (another setup a, another malloc b, another free c, another realloc d, another memalign e) refl
 
-  module _ (a : false ≡ same_bytes name setup) where
-    pub kind_malloc : true ≡ same_bytes name malloc → kind_of name ≡ 2
+  -- the five names are text
+  kind_none : (IsUtf8 name → ⊥) → kind_of name ≡ 0
+  unfolding encode
+  kind_none n =
+      none_named (λ q. n (subst IsUtf8 (sym q) (setup, (refl, refl)))) (λ q. n (subst IsUtf8 (sym q) (malloc, (refl, refl))))
+      (λ q. n (subst IsUtf8 (sym q) (free, (refl, refl)))) (λ q. n (subst IsUtf8 (sym q) (realloc, (refl, refl))))
+      (λ q. n (subst IsUtf8 (sym q) (memalign, (refl, refl))))
+
+  module _ {t : List ℕ} (e : t ≡ name) where
+    pub kind_setup : t ≡ setup → kind_of name ≡ 1
     unfolding kind_of
-    kind_malloc q = rw (sym a, sym q) refl
+    kind_setup q = ap kind_of (sym e ∙ q)
 
-    module _ (b : false ≡ same_bytes name malloc) where
-      pub kind_free : true ≡ same_bytes name free → kind_of name ≡ 3
-      unfolding kind_of
-      kind_free q = rw (sym a, sym b, sym q) refl
+    pub kind_malloc : t ≡ malloc → kind_of name ≡ 2
+    unfolding kind_of
+    kind_malloc q = ap kind_of (sym e ∙ q)
 
-      module _ (d : false ≡ same_bytes name free) where
-        pub kind_realloc : true ≡ same_bytes name realloc → kind_of name ≡ 4
-        unfolding kind_of
-        kind_realloc q = rw (sym a, sym b, sym d, sym q) refl
+    pub kind_free : t ≡ free → kind_of name ≡ 3
+    unfolding kind_of
+    kind_free q = ap kind_of (sym e ∙ q)
 
-        module _ (e : false ≡ same_bytes name realloc) where
-          pub kind_memalign : true ≡ same_bytes name memalign → kind_of name ≡ 5
-          unfolding kind_of
-          kind_memalign q = rw (sym a, sym b, sym d, sym e, sym q) refl
+    pub kind_realloc : t ≡ realloc → kind_of name ≡ 4
+    unfolding kind_of
+    kind_realloc q = ap kind_of (sym e ∙ q)
 
-          pub kind_other : false ≡ same_bytes name memalign → kind_of name ≡ 0
-          unfolding kind_of
-          kind_other q = rw (sym a, sym b, sym d, sym e, sym q) refl
+    pub kind_memalign : t ≡ memalign → kind_of name ≡ 5
+    unfolding kind_of
+    kind_memalign q = ap kind_of (sym e ∙ q)
+
+    pub kind_other : (t ≡ setup → ⊥) → (t ≡ malloc → ⊥) → (t ≡ free → ⊥) → (t ≡ realloc → ⊥) → (t ≡ memalign → ⊥) → kind_of name ≡ 0
+    kind_other a b c d f = none_named (λ q. a (e ∙ q)) (λ q. b (e ∙ q)) (λ q. c (e ∙ q)) (λ q. d (e ∙ q)) (λ q. f (e ∙ q))
 
 -- the call of two numbers
 abbrev told : ℕ → Option (ℕ × ℕ) → Entry
@@ -246,6 +264,10 @@ module _ (rest : List ℕ) where
   pub call_other : {kind : ℕ} → kind ≡ 0 → Odd ≡ called kind rest
   unfolding called
   call_other k = sym (rw k refl)
+
+  pub call_no_text : {E : Type 0} (F : Bor (List ℕ) → Type 0) (V : E → Type 0) (name : List ℕ) (r : Result (Bor (List ℕ)) E) {o : Option Entry}
+      → MatchResult r F (λ e. (IsUtf8 name → ⊥) × V e) → None ≡ result_ok r → o ≡ None → or_odd o ≡ called (kind_of name) rest
+  call_no_text F V name r m q e = ap or_odd e ∙ call_other (kind_none name (no_text F V r m q))
 
   -- one number
   one_lost : None ≡ below none (number_of rest) → (k : ℕ) → Odd ≡ one_number k (number_of rest)
@@ -317,7 +339,6 @@ pub ruleset laws = (
   call_long,
   call_no_comma,
   call_found,
-  name_tested,
   kind_setup,
   kind_malloc,
   kind_free,

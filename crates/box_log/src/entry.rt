@@ -67,24 +67,20 @@ fn two_numbers(s: &[u8]) -> Option<(u64, u64)>
 fn call(name: &[u8], rest: &[u8]) -> Option<Entry>
     ensures { or_odd result ≡ called (kind_of name.now) rest.now }
 {
-    if name == b"setup".as_slice() {
-        return Some(Entry::Setup(number(rest)?));
+    match str::from_utf8(name).ok()? {
+        "setup" => Some(Entry::Setup(number(rest)?)),
+        "malloc" => Some(Entry::Malloc(number(rest)?)),
+        "free" => Some(Entry::Free(number(rest)?)),
+        "realloc" => {
+            let (b, n) = two_numbers(rest)?;
+            Some(Entry::Realloc(b, n))
+        }
+        "memalign" => {
+            let (a, n) = two_numbers(rest)?;
+            Some(Entry::Memalign(a, n))
+        }
+        _ => None,
     }
-    if name == b"malloc".as_slice() {
-        return Some(Entry::Malloc(number(rest)?));
-    }
-    if name == b"free".as_slice() {
-        return Some(Entry::Free(number(rest)?));
-    }
-    if name == b"realloc".as_slice() {
-        let (b, n) = two_numbers(rest)?;
-        return Some(Entry::Realloc(b, n));
-    }
-    if name == b"memalign".as_slice() {
-        let (a, n) = two_numbers(rest)?;
-        return Some(Entry::Memalign(a, n));
-    }
-    None
 }
 
 // The call that a record holds. Longer than 64 bytes it holds none.

@@ -1,36 +1,39 @@
 use Rattle.std.proofs.Common.{rules}
-use Rattle.box_log.proofs.EntryCode.{laws}
+use Rattle.box_log.proofs.EntryCode.{laws, text_is, call_no_text}
 use Rattle.box_log.proofs.entry.call.Goals as goal
 
-pub returns-in_err-number : goal.returns-in_err-number
-returns-in_err-number c = search (laws, rules)
+pub returns-in_err-ok : goal.returns-in_err-ok
+returns-in_err-ok c = call_no_text _ _ _ _ _ c.from_utf8.ensures.cases c.in_err-ok.ensures.value c.from_residual.ensures
 
-pub returns-then-eq : goal.returns-then-eq
-returns-then-eq c = search (laws, rules)
+pub returns-in_err-number-in-setup : goal.returns-in_err-number-in-setup
+returns-in_err-number-in-setup c = let e = text_is _ _ _ _ c.from_utf8.ensures.cases c.in_ok-ok.ensures.value in search (laws, rules)
 
-pub returns-in_err-number-2 : goal.returns-in_err-number-2
-returns-in_err-number-2 c = search (laws, rules)
+pub returns-in_err-number-in-malloc : goal.returns-in_err-number-in-malloc
+returns-in_err-number-in-malloc c = let e = text_is _ _ _ _ c.from_utf8.ensures.cases c.in_ok-ok.ensures.value in search (laws, rules)
 
-pub returns-then-eq-2 : goal.returns-then-eq-2
-returns-then-eq-2 c = search (laws, rules)
+pub returns-in_err-number-in-free : goal.returns-in_err-number-in-free
+returns-in_err-number-in-free c = let e = text_is _ _ _ _ c.from_utf8.ensures.cases c.in_ok-ok.ensures.value in search (laws, rules)
 
-pub returns-in_err-number-3 : goal.returns-in_err-number-3
-returns-in_err-number-3 c = search (laws, rules)
+pub returns-in_err-b-in-realloc : goal.returns-in_err-b-in-realloc
+returns-in_err-b-in-realloc c = let e = text_is _ _ _ _ c.from_utf8.ensures.cases c.in_ok-ok.ensures.value in search (laws, rules)
 
-pub returns-then-eq-3 : goal.returns-then-eq-3
-returns-then-eq-3 c = search (laws, rules)
+pub returns-in_err-a-in-memalign : goal.returns-in_err-a-in-memalign
+returns-in_err-a-in-memalign c = let e = text_is _ _ _ _ c.from_utf8.ensures.cases c.in_ok-ok.ensures.value in search (laws, rules)
 
-pub returns-in_err-b : goal.returns-in_err-b
-returns-in_err-b c = search (laws, rules)
+pub returns-in_ok-number-in-setup : goal.returns-in_ok-number-in-setup
+returns-in_ok-number-in-setup c = let e = text_is _ _ _ _ c.from_utf8.ensures.cases c.in_ok-ok.ensures.value in search (laws, rules)
 
-pub returns-then-eq-4 : goal.returns-then-eq-4
-returns-then-eq-4 c = search (laws, rules)
+pub returns-in_ok-number-in-malloc : goal.returns-in_ok-number-in-malloc
+returns-in_ok-number-in-malloc c = let e = text_is _ _ _ _ c.from_utf8.ensures.cases c.in_ok-ok.ensures.value in search (laws, rules)
 
-pub returns-in_err-a : goal.returns-in_err-a
-returns-in_err-a c = search (laws, rules)
+pub returns-in_ok-number-in-free : goal.returns-in_ok-number-in-free
+returns-in_ok-number-in-free c = let e = text_is _ _ _ _ c.from_utf8.ensures.cases c.in_ok-ok.ensures.value in search (laws, rules)
 
-pub returns-then-eq-5 : goal.returns-then-eq-5
-returns-then-eq-5 c = search (laws, rules)
+pub returns-in_ok-b-in-realloc : goal.returns-in_ok-b-in-realloc
+returns-in_ok-b-in-realloc c = let e = text_is _ _ _ _ c.from_utf8.ensures.cases c.in_ok-ok.ensures.value in search (laws, rules)
 
-pub returns : goal.returns
-returns c = search (laws, rules)
+pub returns-in_ok-a-in-memalign : goal.returns-in_ok-a-in-memalign
+returns-in_ok-a-in-memalign c = let e = text_is _ _ _ _ c.from_utf8.ensures.cases c.in_ok-ok.ensures.value in search (laws, rules)
+
+pub returns-in_default : goal.returns-in_default
+returns-in_default c = let e = text_is _ _ _ _ c.from_utf8.ensures.cases c.in_ok-ok.ensures.value in search (laws, rules)

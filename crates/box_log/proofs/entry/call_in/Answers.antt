@@ -1,5 +1,5 @@
 use Rattle.std.proofs.Common.{rules}
-use Rattle.box_log.proofs.EntryCode.{laws}
+use Rattle.box_log.proofs.EntryCode.{laws, call_found}
 use Rattle.box_log.proofs.entry.call_in.Goals as goal
 
 pub returns-then-s-gt64 : goal.returns-then-s-gt64
@@ -9,4 +9,4 @@ pub returns-in_err-k : goal.returns-in_err-k
 returns-in_err-k c = search (laws, rules)
 
 pub returns : goal.returns
-returns c = search (laws, rules)
+returns c = call_found _ c.if-s-gt64.false c.in_ok-k.ensures c.call.ensures
