@@ -4,6 +4,7 @@ use Rattle.std.proofs.Common.{◌≡◌, ℕ, suc, ◌+◌, ◌-◌, ◌*◌, �
 use Rattle.std.proofs.Math.Seq.{take_all}
 use Rattle.std.proofs.lemmas.Bool.{lt-leb}
 use Rattle.std.proofs.lemmas.Option.{none-some, same_Some}
+use Rattle.std.specs.Option.{option_map}
 use Rattle.std.specs.Result.{MatchResult, result_ok}
 use Rattle.std.specs.Str.{IsUtf8}
 use denote.Ref.{Bor}
@@ -16,7 +17,7 @@ use Rattle.box_log.proofs.DecimalLaws.{from_none, digit_is}
 use Rattle.box_log.proofs.GrammarLaws.{same_bytes_lem}
 use Rattle.box_log.specs.Grammar.{setup, malloc, free, realloc, memalign, comma, same_bytes, comma_at, cut_at, kind_of, one_number, two_numbers}
 use Rattle.box_log.specs.Grammar.{called, read_record}
-use Rattle.box_log.specs.Found.{below, digit_of, both, two_numbers_of, or_odd}
+use Rattle.box_log.specs.Found.{below, digit_of, both, parts_of, numbers_in, two_numbers_of, or_odd}
 use Rattle.box_log.specs.declared.entry.Entry.{Entry}
 use Rattle.box_log.specs.declared.entry.Entry.TheVariants.{Setup, Malloc, Free, Realloc, Memalign, Odd}
 
@@ -43,11 +44,17 @@ picks : {A : Type 0} (b : Bool) (x y : A) → cond b x y ≡ pick b x y
 picks true x y = refl
 picks false x y = refl
 
-pub comma_place : (s : List ℕ) → cond (ltb (position_or_len (λ b. eqb b comma) s) (length s)) (Some (position_or_len (λ b. eqb b comma) s)) None
+pub comma_place : (s : List ℕ)
+    → cond (ltb (position_or_len (λ b. eqb b comma) s) (length s)) (Some (position_or_len (λ b. eqb b comma) s)) None
     ≡ below (length s) (comma_at s)
 comma_place s =
     picks (ltb (position_or_len (λ b. eqb b comma) s) (length s)) _ _
-    ∙ ap (below (length s)) (sym (is_position_or_len comma_at (λ b. eqb b comma) refl (λ x xs. sym (picks (eqb x comma) 0 (1 + comma_at xs) ∙ ap (pick (eqb x comma) 0) (let z : 1 + comma_at xs ≡ suc (comma_at xs) = omega arith in z))) s))
+    ∙ ap (below (length s)) (sym (is_position_or_len comma_at (λ b. eqb b comma) refl step s))
+  where
+    step : (x : ℕ) (xs : List ℕ) → comma_at (x ∷ xs) ≡ cond (eqb x comma) 0 (1 + comma_at xs)
+    step x xs =
+        let e : suc (comma_at xs) ≡ 1 + comma_at xs = omega arith in
+        ap (pick (eqb x comma) 0) e ∙ sym (picks (eqb x comma) 0 (1 + comma_at xs))
 
 -- ---- number: the bytes that are left, read on, give the number of all
 
@@ -136,60 +143,56 @@ module _ (s : List ℕ) where
             same = ap (λ k. number_from k (drop (i + 1) rest)) (sym (read_is ∙ grown_is ∙ rw (lt-ltb (n * 10 + d) none p) refl)) ∙ next_on;
           }
 
--- ---- the parts before and after a comma
+-- ---- the parts before and after the first comma
 
 abbrev tail_of : List ℕ → ℕ → List ℕ
 tail_of l n = take (length l - n) (drop n l)
 
+tail_whole : (l : List ℕ) (n : ℕ) → tail_of l n ≡ drop n l
+tail_whole l n = take_all (length l - n) (drop n l) (rw (length-drop n l) (omega arith))
+
+abbrev texts : Option (Bor (List ℕ) × Bor (List ℕ)) → Option (List ℕ × List ℕ)
+texts r = option_map (λ p. (p.0.now, p.1.now)) r
+
 module _ (s : List ℕ) where
-  tail_whole : (n : ℕ) → tail_of s n ≡ drop n s
-  tail_whole n = take_all (length s - n) (drop n s) (rw (length-drop n s) (omega arith))
+  pub no_parts : {r : Option (Bor (List ℕ) × Bor (List ℕ))} → None ≡ below (length s) (comma_at s) → r ≡ None → texts r ≡ parts_of s
+  unfolding parts_of
+  no_parts q e = ap texts e ∙ sym (rw (le-leb (length s) (comma_at s) (below_none (length s) (comma_at s) q)) refl)
 
-  no_comma : {A : Type 0} (f : List ℕ → List ℕ → A) (z : A) → None ≡ below (length s) (comma_at s) → cut_at (comma_at s) s f z ≡ z
-  no_comma f z q = rw (le-leb (length s) (comma_at s) (below_none (length s) (comma_at s) q)) refl
-
-  at_comma : {A : Type 0} {k : ℕ} (f : List ℕ → List ℕ → A) (z : A) → Some k ≡ below (length s) (comma_at s)
-      → cut_at (comma_at s) s f z ≡ f (take k s) (tail_of s (k + 1))
-  at_comma {k = k} f z q =
+  pub two_parts : {k : ℕ} → Some k ≡ below (length s) (comma_at s) → Some (take k s, tail_of s (k + 1)) ≡ parts_of s
+  unfolding parts_of
+  two_parts {k} q =
       let b = below_some (length s) (comma_at s) k q in
-      rw (lt-leb (length s) (comma_at s) b.0, b.1) (ap (f (take k s)) (sym (tail_whole (k + 1))))
+      ap (λ z. Some (take k s, z)) (tail_whole s (k + 1)) ∙ sym (rw (lt-leb (length s) (comma_at s) b.0, b.1) refl)
 
-  -- ---- two_numbers
+-- whatever is made of the parts
+abbrev made : {A : Type 0} → (List ℕ → List ℕ → A) → A → Option (List ℕ × List ℕ) → A
+made f z None = z
+made f z (Some (ds, es)) = f ds es
 
-  pub two_no_comma : {r : Option (ℕ × ℕ)} → None ≡ below (length s) (comma_at s) → r ≡ None → r ≡ two_numbers_of s
-  unfolding two_numbers_of
-  two_no_comma q e = e ∙ sym (no_comma (λ ds es. both (below none (number_of ds)) (below none (number_of es))) None q)
+made_is : {A : Type 0} (bs : List ℕ) (f : List ℕ → List ℕ → A) (z : A) → made f z (parts_of bs) ≡ cut_at (comma_at bs) bs f z
+unfolding parts_of
+made_is bs f z = by (λ t. made f z (pick t None (Some (take (comma_at bs) bs, drop (comma_at bs + 1) bs)))
+    ≡ pick t z (f (take (comma_at bs) bs) (drop (comma_at bs + 1) bs))) (leb (length bs) (comma_at bs)) (λ y. refl) (λ y. refl)
 
-  module _ {k : ℕ} (q : Some k ≡ below (length s) (comma_at s)) where
-    two_at : two_numbers_of s ≡ both (below none (number_of (take k s))) (below none (number_of (tail_of s (k + 1))))
-    unfolding two_numbers_of
-    two_at = at_comma (λ ds es. both (below none (number_of ds)) (below none (number_of es))) None q
+-- ---- call_in
 
-    pub two_first_none : {r : Option (ℕ × ℕ)} → None ≡ below none (number_of (take k s)) → r ≡ None → r ≡ two_numbers_of s
-    two_first_none a e = e ∙ ap (λ z. both z (below none (number_of (tail_of s (k + 1))))) a ∙ sym two_at
-
-    module _ {n : ℕ} (a : Some n ≡ below none (number_of (take k s))) where
-      pub two_second_none : {r : Option (ℕ × ℕ)} → None ≡ below none (number_of (tail_of s (k + 1))) → r ≡ None → r ≡ two_numbers_of s
-      two_second_none b e = e ∙ ap (both (Some n)) b ∙ ap (λ z. both z (below none (number_of (tail_of s (k + 1))))) a ∙ sym two_at
-
-      pub two_found : {m : ℕ} → Some m ≡ below none (number_of (tail_of s (k + 1))) → Some (n, m) ≡ two_numbers_of s
-      two_found b = ap (both (Some n)) b ∙ ap (λ z. both z (below none (number_of (tail_of s (k + 1))))) a ∙ sym two_at
-
-  -- ---- call_in
-
+module _ (s : List ℕ) where
   pub call_long : 64 < length s → Odd ≡ read_record s
   unfolding read_record
   call_long p = sym (rw (lt-ltb 64 (length s) p) refl)
 
   module _ (o : length s ≤ 64) where
-    pub call_no_comma : {r : Option Entry} → None ≡ below (length s) (comma_at s) → r ≡ None → or_odd r ≡ read_record s
+    record_is : made (λ name rest. called (kind_of name) rest) Odd (parts_of s) ≡ read_record s
     unfolding read_record
-    call_no_comma q e = ap or_odd e ∙ sym (rw (le-ltb 64 (length s) o) (no_comma (λ name rest. called (kind_of name) rest) Odd q))
+    record_is = made_is s (λ name rest. called (kind_of name) rest) Odd ∙ sym (rw (le-ltb 64 (length s) o) refl)
 
-    pub call_found : {e : Entry} {k : ℕ} → Some k ≡ below (length s) (comma_at s)
-        → e ≡ called (kind_of (take k s)) (tail_of s (k + 1)) → e ≡ read_record s
-    unfolding read_record
-    call_found q e = e ∙ sym (rw (le-ltb 64 (length s) o) (at_comma (λ name rest. called (kind_of name) rest) Odd q))
+    pub call_no_comma : {r : Option Entry} → None ≡ parts_of s → r ≡ None → or_odd r ≡ read_record s
+    call_no_comma q e = ap or_odd e ∙ ap (made (λ name rest. called (kind_of name) rest) Odd) q ∙ record_is
+
+    pub call_found : {e : Entry} {name rest : List ℕ} → Some (name, rest) ≡ parts_of s → e ≡ called (kind_of name) rest
+        → e ≡ read_record s
+    call_found q e = e ∙ ap (made (λ name rest. called (kind_of name) rest) Odd) q ∙ record_is
 
 -- ---- call: the name, then what stands behind it
 
@@ -299,17 +302,15 @@ module _ (rest : List ℕ) where
 
   -- two numbers
   told_is : (kind : ℕ) → 4 ≤ kind → told kind (two_numbers_of rest) ≡ called kind rest
-  unfolding called two_numbers_of
+  unfolding called
   told_is kind l =
-      sym (rw (ne_eqb kind 0 (λ z. omega arith), le-ltb kind 4 l)
-      (by (λ t. pick t Odd (two_numbers kind (number_of ds) (number_of es)) ≡ told kind (pick t None (both (below none (number_of ds))
-      (below none (number_of es))))) (leb (length rest) (comma_at rest)) (λ z. refl) (λ z. two_is kind (number_of ds) (number_of es))))
+      told_made (parts_of rest) ∙ made_is rest (λ ds es. two_numbers kind (number_of ds) (number_of es)) Odd
+      ∙ sym (rw (ne_eqb kind 0 (λ z. omega arith), le-ltb kind 4 l) refl)
     where
-      ds : List ℕ
-      ds = take (comma_at rest) rest
-
-      es : List ℕ
-      es = drop (comma_at rest + 1) rest
+      told_made : (o : Option (List ℕ × List ℕ))
+          → told kind (numbers_in o) ≡ made (λ ds es. two_numbers kind (number_of ds) (number_of es)) Odd o
+      told_made None = refl
+      told_made (Some (ds, es)) = sym (two_is kind (number_of ds) (number_of es))
 
   pub two_none : (kind : ℕ) {r : Option Entry} → 4 ≤ kind → None ≡ two_numbers_of rest → r ≡ None → or_odd r ≡ called kind rest
   two_none kind l q e = ap or_odd e ∙ ap (told kind) q ∙ told_is kind l
@@ -332,13 +333,6 @@ pub ruleset laws = (
   next_zero,
   next_over,
   next_digit,
-  two_no_comma,
-  two_first_none,
-  two_second_none,
-  two_found,
-  call_long,
-  call_no_comma,
-  call_found,
   kind_setup,
   kind_malloc,
   kind_free,

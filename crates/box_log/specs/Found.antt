@@ -14,6 +14,10 @@ below limit n = pick (ltb n limit) (Some n) None
 abbrev pub digit_of : ℕ → Option ℕ
 digit_of b = pick (is_digit b) (Some (b - 48)) None
 
+-- the parts before and after the first comma
+unfoldable pub parts_of : List ℕ → Option (List ℕ × List ℕ)
+parts_of bs = cut_at (comma_at bs) bs (λ ds es. Some (ds, es)) None
+
 -- both, where there are both
 abbrev pub both : Option ℕ → Option ℕ → Option (ℕ × ℕ)
 both None m = None
@@ -21,8 +25,12 @@ both (Some n) None = None
 both (Some n) (Some m) = Some (n, m)
 
 -- the numbers before and after the first comma
-unfoldable pub two_numbers_of : List ℕ → Option (ℕ × ℕ)
-two_numbers_of bs = cut_at (comma_at bs) bs (λ ds es. both (below none (number_of ds)) (below none (number_of es))) None
+abbrev pub numbers_in : Option (List ℕ × List ℕ) → Option (ℕ × ℕ)
+numbers_in None = None
+numbers_in (Some (ds, es)) = both (below none (number_of ds)) (below none (number_of es))
+
+abbrev pub two_numbers_of : List ℕ → Option (ℕ × ℕ)
+two_numbers_of bs = numbers_in (parts_of bs)
 
 -- a record without a call has another form
 abbrev pub or_odd : Option Entry → Entry

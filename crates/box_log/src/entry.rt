@@ -1,8 +1,9 @@
 // One record of the log, read from its bytes.
-ghost use Rattle.std.specs.Prelude.{◌≡◌, length};
+ghost use Rattle.std.specs.Prelude.{◌≡◌};
+ghost use Rattle.std.specs.Option.{option_map};
 ghost use Rattle.box_log.specs.Decimals.{none, number_of};
-ghost use Rattle.box_log.specs.Grammar.{comma_at, kind_of, called, read_record};
-ghost use Rattle.box_log.specs.Found.{below, digit_of, two_numbers_of, or_odd};
+ghost use Rattle.box_log.specs.Grammar.{kind_of, called, read_record};
+ghost use Rattle.box_log.specs.Found.{below, digit_of, parts_of, two_numbers_of, or_odd};
 
 // What a record says: the call and its numbers, or that it has another form.
 #[derive(Clone, Copy, PartialEq, Eq, Debug)]
@@ -46,21 +47,20 @@ fn number(s: &[u8]) -> Option<u64>
     Some(n)
 }
 
-// Where the first comma stands.
-fn comma_at(s: &[u8]) -> Option<usize>
-    ensures { result ≡ below (length s.now) (comma_at s.now) }
+// The parts before and after the first comma.
+fn parts(s: &[u8]) -> Option<(&[u8], &[u8])>
+    ensures { option_map (λ p. (p.0.now, p.1.now)) result ≡ parts_of s.now }
 {
-    s.iter().position(|b| *b == b',')
+    let k = s.iter().position(|b| *b == b',')?;
+    Some((&s[..k], &s[k + 1..]))
 }
 
-// The numbers before and after the first comma.
+// Two numbers with a comma between them.
 fn two_numbers(s: &[u8]) -> Option<(u64, u64)>
     ensures { result ≡ two_numbers_of s.now }
 {
-    let k = comma_at(s)?;
-    let n = number(&s[..k])?;
-    let m = number(&s[k + 1..])?;
-    Some((n, m))
+    let (n, m) = parts(s)?;
+    Some((number(n)?, number(m)?))
 }
 
 // The call of that name, with the numbers that stand behind the name's comma.
@@ -90,8 +90,8 @@ fn call_in(s: &[u8]) -> Option<Entry>
     if s.len() > 64 {
         return None;
     }
-    let k = comma_at(s)?;
-    call(&s[..k], &s[k + 1..])
+    let (name, rest) = parts(s)?;
+    call(name, rest)
 }
 
 // What the record says.
