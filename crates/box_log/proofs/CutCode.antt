@@ -1,32 +1,25 @@
 -- Cutting the stream: one law for each return. Assumes nothing.
+use Rattle.std.specs.Prelude.{None, Some}
 use mathlib.Core.Bool.{true, false}
 use mathlib.Core.List.{List, [], ◌∷◌}
 use mathlib.Core.Path.{◌≡◌, refl, sym, ap, ◌∙◌}
-use Prim.Native.Nat.{ℕ, zero, suc, ◌+◌, ◌≤◌, ◌<◌}
+use Prim.Native.Nat.{ℕ, zero, suc, ◌≤◌, ◌<◌}
 use native.Mathlib.Omega.{arith}
 use lib.ListN.{length, take, set}
 use lib.Seq.{length-take-le}
 use borrow.Author.Tests.{eq-eqb, ne_eqb, lt-ltb, le-ltb, not-true, not-false}
 use Rattle.box_log.specs.Grammar.{read_record}
-use Rattle.box_log.specs.Cutting.{more, read_line, step, plain_line, plain_step, line_after, step_at, line_at_end, ending}
+use Rattle.box_log.specs.Cutting.{at, more, read_line, step, plain_line, plain_step, line_after, step_at, line_at_end, ending}
 use Rattle.box_log.specs.declared.entry.Entry.{Entry}
 use Rattle.box_log.specs.declared.entry.Entry.TheVariants.{Odd}
 use Rattle.box_log.specs.declared.cut.Place.{Place}
 use Rattle.box_log.specs.declared.cut.Step.{Step}
-use Rattle.box_log.specs.declared.cut.Got.TheVariants.{Nothing, Record}
 
 -- past its end a line takes no byte
 pub keep_past : (l : List ℕ) (i b : ℕ) → length l ≤ i → l ≡ set l i b
 keep_past [] i b p = refl
 keep_past (x ∷ xs) zero b p = absurd (let z : ⊥ = omega arith in z)
 keep_past (x ∷ xs) (suc i) b p = ap (λ r. x ∷ r) (keep_past xs i b (omega arith))
-
-module _ (held : ℕ) where
-  pub more_in : held < 65 → held + 1 ≡ more held
-  more_in p = sym (rw (lt-ltb held 65 p) refl)
-
-  pub more_out : 65 ≤ held → 65 ≡ more held
-  more_out p = sym (rw (le-ltb held 65 p) refl)
 
 module _ (line : List ℕ) (held : ℕ) where
   pub line_long : length line < held → Odd ≡ read_line line held
@@ -47,13 +40,13 @@ module _ (line : List ℕ) (held : ℕ) where
     plain_line_lem n q = q ∙ sym (rw (ne_eqb b 13 n) refl)
 
 module _ (held b : ℕ) where
-  pub plain_step_cr : b ≡ 13 → step held true Nothing ≡ plain_step held b
+  pub plain_step_cr : b ≡ 13 → step held true None ≡ plain_step held b
   unfolding plain_step
   plain_step_cr q = sym (rw (eq-eqb b 13 q) refl)
 
-  pub plain_step_lem : {n : ℕ} → (b ≡ 13 → ⊥) → n ≡ more held → step n false Nothing ≡ plain_step held b
+  pub plain_step_lem : {p : Place} → (b ≡ 13 → ⊥) → p ≡ at (more held) false → record { place = p; got = None } ≡ plain_step held b
   unfolding plain_step
-  plain_step_lem n q = ap (λ k. step k false Nothing) q ∙ sym (rw (ne_eqb b 13 n) refl)
+  plain_step_lem n q = ap (λ z. record { place = z; got = None }) q ∙ sym (rw (ne_eqb b 13 n) refl)
 
 module _ (line : List ℕ) (p : Place) (b : ℕ) where
   pub after_plain : {l : List ℕ} → p.cr ≡ false → l ≡ plain_line line p.held b → l ≡ line_after line p b
@@ -69,19 +62,19 @@ module _ (line : List ℕ) (p : Place) (b : ℕ) where
     unfolding line_after
     after_end q = sym (rw (c, eq-eqb b 10 q) refl)
 
-    pub step_end : {e : Entry} → b ≡ 10 → e ≡ read_line line p.held → step 0 false (Record e) ≡ step_at line p b
+    pub step_end : {e : Entry} → b ≡ 10 → e ≡ read_line line p.held → step 0 false (Some e) ≡ step_at line p b
     unfolding step_at
-    step_end q r = ap (λ e. step 0 false (Record e)) r ∙ sym (rw (c, eq-eqb b 10 q) refl)
+    step_end q r = ap (λ e. step 0 false (Some e)) r ∙ sym (rw (c, eq-eqb b 10 q) refl)
 
-    pub after_cr : {l k : List ℕ} {n : ℕ} → (b ≡ 10 → ⊥) → k ≡ set line p.held 13 → n ≡ more p.held → l ≡ plain_line k n b
-        → l ≡ line_after line p b
+    pub after_cr : {l k : List ℕ} {q : Place} → (b ≡ 10 → ⊥) → k ≡ set line p.held 13 → q ≡ at (more p.held) false
+        → l ≡ plain_line k q.held b → l ≡ line_after line p b
     unfolding line_after
-    after_cr {n = n} m q r s = s ∙ ap (λ k. plain_line k n b) q ∙ ap (λ n. plain_line (set line p.held 13) n b) r
+    after_cr {q = q} m e f s = s ∙ ap (λ k. plain_line k q.held b) e ∙ ap (λ z. plain_line (set line p.held 13) z.held b) f
         ∙ sym (rw (c, ne_eqb b 10 m) refl)
 
-    pub step_cr : {x : Step} {n : ℕ} → (b ≡ 10 → ⊥) → n ≡ more p.held → x ≡ plain_step n b → x ≡ step_at line p b
+    pub step_cr : {x : Step} {q : Place} → (b ≡ 10 → ⊥) → q ≡ at (more p.held) false → x ≡ plain_step q.held b → x ≡ step_at line p b
     unfolding step_at
-    step_cr m r s = s ∙ ap (λ n. plain_step n b) r ∙ sym (rw (c, ne_eqb b 10 m) refl)
+    step_cr m f s = s ∙ ap (λ z. plain_step z.held b) f ∙ sym (rw (c, ne_eqb b 10 m) refl)
 
 module _ (line : List ℕ) (p : Place) where
   pub end_line : p.cr ≡ false → line ≡ line_at_end line p
@@ -92,26 +85,24 @@ module _ (line : List ℕ) (p : Place) where
   unfolding line_at_end
   end_line_cr c q = q ∙ sym (rw c refl)
 
-  pub end_cr : {e : Entry} {k : List ℕ} {n : ℕ} → p.cr ≡ true → k ≡ set line p.held 13 → n ≡ more p.held → e ≡ read_line k n
-      → Record e ≡ ending line p
+  pub end_cr : {e : Entry} {k : List ℕ} {q : Place} → p.cr ≡ true → k ≡ set line p.held 13 → q ≡ at (more p.held) false
+      → e ≡ read_line k q.held → Some e ≡ ending line p
   unfolding ending
-  end_cr {n = n} c q r s = ap Record (s ∙ ap (λ k. read_line k n) q ∙ ap (read_line (set line p.held 13)) r) ∙ sym (rw c refl)
+  end_cr {q = q} c f g s = ap Some (s ∙ ap (λ k. read_line k q.held) f ∙ ap (λ z. read_line (set line p.held 13) z.held) g) ∙ sym (rw c refl)
 
-  pub end_none : p.cr ≡ false → p.held ≡ 0 → Nothing ≡ ending line p
+  pub end_none : p.cr ≡ false → p.held ≡ 0 → None ≡ ending line p
   unfolding ending
   end_none c q = sym (rw (c, eq-eqb p.held 0 q) refl)
 
-  pub end_some : {e : Entry} → p.cr ≡ false → (p.held ≡ 0 → ⊥) → e ≡ read_line line p.held → Record e ≡ ending line p
+  pub end_some : {e : Entry} → p.cr ≡ false → (p.held ≡ 0 → ⊥) → e ≡ read_line line p.held → Some e ≡ ending line p
   unfolding ending
-  end_some c n s = ap Record s ∙ sym (rw (c, ne_eqb p.held 0 n) refl)
+  end_some c n s = ap Some s ∙ sym (rw (c, ne_eqb p.held 0 n) refl)
 
 pub ruleset laws = (
   length-take-le,
   not-true,
   not-false,
   keep_past,
-  more_in,
-  more_out,
   line_long,
   line_reads,
   plain_line_cr,

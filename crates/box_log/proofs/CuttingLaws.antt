@@ -1,7 +1,7 @@
 -- THE STEPS CUT THE STREAM as its definition says: from an empty line of 64 bytes the entries handed out over the whole stream are what the
 -- stream's records say (`cut-whole`), however it comes in pieces (`in_pieces`). And what the definition says: `records-crlf`,
 -- `records_last`. Assumes nothing.
-use Rattle.std.specs.Prelude.{Bool, true, false, not, ◌&&◌, List, [], ◌∷◌, ◌++◌, map, ◌≡◌, refl, ℕ, suc, ◌+◌, ◌≤◌, ◌<◌, eqb, length, take, set}
+use Rattle.std.specs.Prelude.{Bool, Option, None, Some, true, false, not, ◌&&◌, List, [], ◌∷◌, ◌++◌, map, ◌≡◌, refl, ℕ, suc, ◌+◌, ◌≤◌, ◌<◌, eqb, length, take, set}
 use Rattle.std.proofs.Common.{append-nil, ⊎_elim, sym, ap, ◌∙◌, arith, add-one, length-append, length-set, take-suc-set, lt-ltb, le-ltb, eq-eqb, ne_eqb}
 use Rattle.words.specs.Logic.{pick, by, false-true, same?, le_or_lt}
 use Rattle.box_log.specs.Grammar.{read_record}
@@ -9,8 +9,6 @@ use Rattle.box_log.specs.Cutting.{is_crlf, onto, records, entries, more, read_li
 use Rattle.box_log.specs.Cutting.{hand_out, handed, out_of, line_of, place_of}
 use Rattle.box_log.specs.declared.entry.Entry.{Entry}
 use Rattle.box_log.specs.declared.cut.Place.{Place}
-use Rattle.box_log.specs.declared.cut.Got.{Got}
-use Rattle.box_log.specs.declared.cut.Got.TheVariants.{Nothing, Record}
 use Rattle.box_log.specs.CuttingLaws.{Kept, before, no_crlf}
 
 -- ---- the records of a stream
@@ -158,9 +156,9 @@ cut-whole line bs q = runs bs line 0 [] false (kept_none line q)
 
 -- ---- in pieces
 
-hand_append : (g : Got) (es fs : List Entry) → hand_out g (es ++ fs) ≡ hand_out g es ++ fs
-hand_append Nothing es fs = refl
-hand_append (Record e) es fs = refl
+hand_append : (g : Option Entry) (es fs : List Entry) → hand_out g (es ++ fs) ≡ hand_out g es ++ fs
+hand_append None es fs = refl
+hand_append (Some e) es fs = refl
 
 -- a piece, and then the rest: the line and the place carry what the next piece needs
 pub in_pieces : (line : List ℕ) (p : Place) (xs ys : List ℕ)

@@ -54,7 +54,7 @@ read_none b = by (λ t. pick t (pick (ltb (none * 10 + (b - 48)) none) (none * 1
 digit_yes : (b : ℕ) → 48 ≤ b → b ≤ 57 → is_digit b ≡ true
 digit_yes b p q = rw (le-leb 48 b p, le-leb b 57 q) refl
 
-digit_is : (b : ℕ) → is_digit b ≡ true → (48 ≤ b) × (b ≤ 57)
+pub digit_is : (b : ℕ) → is_digit b ≡ true → (48 ≤ b) × (b ≤ 57)
 digit_is b q = by (λ t. t && leb b 57 ≡ true → (48 ≤ b) × (b ≤ 57)) (leb 48 b)
     (λ z r. (leb-true 48 b z, leb-true b 57 r)) (λ z r. false-true r) q
 
@@ -123,7 +123,7 @@ read_zero : (b : ℕ) → digit_read 0 b ≡ none
 unfolding digit_read grown
 read_zero b = by (λ t. pick t none none ≡ none) (is_digit b) (λ z. refl) (λ z. refl)
 
-from_none : (bs : List ℕ) → number_from none bs ≡ none
+pub from_none : (bs : List ℕ) → number_from none bs ≡ none
 unfolding number_from
 from_none [] = refl
 from_none (b ∷ bs) = rw (read_none b) (from_none bs)

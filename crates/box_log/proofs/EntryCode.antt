@@ -1,331 +1,350 @@
 -- Reading a record: one law for each return and each turn of a loop, what the tests and the callees have told put together as the
 -- definition says it. Assumes nothing.
-use mathlib.Core.Bool.{Bool, true, false, ◌&&◌}
-use mathlib.Core.List.{List, [], ◌∷◌}
-use mathlib.Core.Path.{◌≡◌, refl, sym, ap, ◌∙◌}
-use Prim.Native.Nat.{ℕ, suc, ◌+◌, ◌-◌, ◌*◌, ◌≤◌, ◌<◌}
-use native.Mathlib.Omega.{arith}
-use native.Mathlib.Numerals.{add-one}
-use lib.Dec.{eqb}
-use lib.ListN.{length, get_or, take, drop, drop_of_length-le, length-drop}
-use lib.Seq.{drop-cons, length-take-le, take_all}
-use borrow.Author.Tests.{eq-eqb, ne_eqb, lt-ltb, le-ltb, le-leb, lt-leb, not-true, not-false}
-use Rattle.box_log.specs.Decimals.{none, fresh, grown, digit_read, number_from, number_of}
-use Rattle.box_log.specs.Grammar.{setup, malloc, free, realloc, memalign, comma, same_bytes, comma_at, kind_of, one_number, two_numbers}
+use Rattle.std.proofs.Common.{◌≡◌, ℕ, suc, ◌+◌, ◌-◌, ◌*◌, ◌≤◌, ◌<◌, Bool, true, false, ⊎_elim, cond, eqb, leb, ltb, List, [], ◌∷◌, length, take, drop, Option, Some, None, Result, Ok, Err, subst, refl, sym, ap, ◌∙◌, arith, lt-ltb, le-ltb, ne_eqb, add-one, get_or, drop-cons, drop_of_length-le, length-drop, le-leb, ltb-true, ltb-false}
+use Rattle.std.proofs.Math.Seq.{take_all}
+use Rattle.std.proofs.lemmas.Bool.{lt-leb}
+use Rattle.std.proofs.lemmas.Option.{none-some, same_Some}
+use Rattle.std.specs.Option.{option_map}
+use Rattle.std.specs.Result.{MatchResult, result_ok}
+use Rattle.std.specs.Str.{IsUtf8}
+use denote.Ref.{Bor}
+use lib.Utf8.{encode}
+use Rattle.std.specs.List.{position_or_len}
+use Rattle.std.proofs.lemmas.List.Recursion.{is_position_or_len}
+use Rattle.words.specs.Logic.{pick, by, lt_or_le}
+use Rattle.box_log.specs.Decimals.{none, fresh, is_digit, grown, digit_read, number_from, number_of}
+use Rattle.box_log.proofs.DecimalLaws.{from_none, digit_is}
+use Rattle.box_log.proofs.GrammarLaws.{same_bytes_lem}
+use Rattle.box_log.specs.Grammar.{setup, malloc, free, realloc, memalign, comma, same_bytes, comma_at, cut_at, kind_of, one_number, two_numbers}
 use Rattle.box_log.specs.Grammar.{called, read_record}
+use Rattle.box_log.specs.Found.{below, digit_of, both, parts_of, numbers_in, two_numbers_of, or_odd}
 use Rattle.box_log.specs.declared.entry.Entry.{Entry}
 use Rattle.box_log.specs.declared.entry.Entry.TheVariants.{Setup, Malloc, Free, Realloc, Memalign, Odd}
 
--- ---- digit_read
+-- ---- what is found, and what is not
 
-module _ (s b : ℕ) where
-  pub digit_low : b < 48 → none ≡ digit_read s b
-  unfolding digit_read
-  digit_low p = sym (rw (lt-leb 48 b p) refl)
+module _ (limit n : ℕ) where
+  pub below_yes : n < limit → Some n ≡ below limit n
+  below_yes p = sym (rw (lt-ltb n limit p) refl)
 
-  pub digit_high : 48 ≤ b → 57 < b → none ≡ digit_read s b
-  unfolding digit_read
-  digit_high p q = sym (rw (le-leb 48 b p, lt-leb b 57 q) refl)
+  pub below_no : limit ≤ n → None ≡ below limit n
+  below_no p = sym (rw (le-ltb n limit p) refl)
 
-  module _ (p : 48 ≤ b) (q : b ≤ 57) where
-    pub digit_first : {x : ℕ} → x ≡ b → s ≡ fresh → x - 48 ≡ digit_read s b
-    unfolding digit_read grown
-    digit_first x e = ap (λ k. k - 48) x ∙ sym (rw (le-leb 48 b p, le-leb b 57 q, eq-eqb s fresh e) refl)
+  below_some : (k : ℕ) → Some k ≡ below limit n → (n < limit) × (n ≡ k)
+  below_some k = by (λ t. ltb n limit ≡ t → Some k ≡ pick t (Some n) None → (n < limit) × (n ≡ k)) (ltb n limit)
+      (λ z w q. (ltb-true n limit w, sym (same_Some k n q))) (λ z w q. absurd (none-some k (sym q))) refl
 
-    module _ (n : s ≡ fresh → ⊥) where
-      pub digit-zero : s ≡ 0 → none ≡ digit_read s b
-      unfolding digit_read grown
-      digit-zero e = sym (rw (le-leb 48 b p, le-leb b 57 q, ne_eqb s fresh n, eq-eqb s 0 e) refl)
-
-      pub digit_out : (s ≡ 0 → ⊥) → none ≤ s → none ≡ digit_read s b
-      unfolding digit_read grown
-      digit_out z e =
-          sym (rw (le-leb 48 b p, le-leb b 57 q, ne_eqb s fresh n, ne_eqb s 0 z, le-ltb (s * 10 + (b - 48)) none (omega arith)) refl)
-
-      module _ (z : s ≡ 0 → ⊥) {x : ℕ} (e : x ≡ b) where
-        pub digit-fits : s * 10 + (x - 48) < none → s * 10 + (x - 48) ≡ digit_read s b
-        unfolding digit_read grown
-        digit-fits l = ap (λ k. s * 10 + (k - 48)) e
-            ∙ sym (rw (
-              le-leb 48 b p,
-              le-leb b 57 q,
-              ne_eqb s fresh n,
-              ne_eqb s 0 z,
-              lt-ltb (s * 10 + (b - 48)) none (rw (ap (λ k. s * 10 + (k - 48)) e) at l),
-            ) refl)
-
-        pub digit_over : none ≤ s * 10 + (x - 48) → none ≡ digit_read s b
-        unfolding digit_read grown
-        digit_over l =
-            sym (rw (
-              le-leb 48 b p,
-              le-leb b 57 q,
-              ne_eqb s fresh n,
-              ne_eqb s 0 z,
-              le-ltb (s * 10 + (b - 48)) none (rw (ap (λ k. s * 10 + (k - 48)) e) at l),
-            ) refl)
-
--- ---- number: the bytes that are left, read on, give the number of all
-
-pub record Reading (s : List ℕ) (i n : ℕ) : Type 0 where
-  pub inside : i ≤ length s
-  pub same : number_from n (drop i s) ≡ number_of s
-
-pub reading_start : (s : List ℕ) → Reading s 0 fresh
-unfolding number_of
-reading_start s = record { inside = omega arith; same = refl }
-
-pub reading_turn : {s : List ℕ} {i n m : ℕ} → Reading s i n → i < length s → m ≡ digit_read n (get_or s i 0) → Reading s (i + 1) m
-unfolding number_from
-reading_turn {s} {i} {n} {m} r l e =
-    record {
-      inside = omega arith;
-      same = ap (λ k. number_from m (drop k s)) (add-one i) ∙ ap (λ k. number_from k (drop (suc i) s)) e
-          ∙ ap (number_from n) (sym (drop-cons s i 0 l)) ∙ r.same;
-    }
-
-pub reading_end : {s : List ℕ} {i n : ℕ} → Reading s i n → length s ≤ i → n ≡ number_of s
-unfolding number_from
-reading_end {s} {i} {n} r l = ap (number_from n) (sym (drop_of_length-le s l)) ∙ r.same
+  below_none : None ≡ below limit n → limit ≤ n
+  below_none = by (λ t. ltb n limit ≡ t → None ≡ pick t (Some n) None → limit ≤ n) (ltb n limit)
+      (λ z w q. absurd (none-some n q)) (λ z w q. ltb-false n limit w) refl
 
 -- ---- comma_at
 
-pub record Seeking (s : List ℕ) (i : ℕ) : Type 0 where
-  pub inside : i ≤ length s
-  pub same : i + comma_at (drop i s) ≡ comma_at s
+picks : {A : Type 0} (b : Bool) (x y : A) → cond b x y ≡ pick b x y
+picks true x y = refl
+picks false x y = refl
 
-pub seeking_start : (s : List ℕ) → Seeking s 0
-seeking_start s = record { inside = omega arith; same = omega arith }
-
-pub seeking_turn : {s : List ℕ} {i : ℕ} → Seeking s i → i < length s → (get_or s i 0 ≡ comma → ⊥) → Seeking s (i + 1)
-seeking_turn {s} {i} r l n =
-    let h : comma_at (drop i s) ≡ suc (comma_at (drop (suc i) s)) = ap comma_at (drop-cons s i 0 l) ∙ rw (ne_eqb (get_or s i 0) comma n) refl in
-    let k : i + comma_at (drop i s) ≡ comma_at s = r.same in
-    record {
-      inside = omega arith;
-      same = ap (λ j. i + 1 + comma_at (drop j s)) (add-one i)
-          ∙ (let z : i + 1 + comma_at (drop (suc i) s) ≡ comma_at s = omega arith in z);
-    }
-
-pub seeking_found : {s : List ℕ} {i : ℕ} → Seeking s i → i < length s → get_or s i 0 ≡ comma → i ≡ comma_at s
-seeking_found {s} {i} r l q =
-    let h : comma_at (drop i s) ≡ 0 = ap comma_at (drop-cons s i 0 l) ∙ rw (eq-eqb (get_or s i 0) comma q) refl in
-    let k : i + comma_at (drop i s) ≡ comma_at s = r.same in
-    omega arith
-
-pub seeking_end : {s : List ℕ} {i : ℕ} → Seeking s i → length s ≤ i → i ≡ comma_at s
-seeking_end {s} {i} r l =
-    let h : comma_at (drop i s) ≡ 0 = ap comma_at (drop_of_length-le s l) in
-    let k : i + comma_at (drop i s) ≡ comma_at s = r.same in
-    omega arith
-
--- ---- same
-
-pub record Agreeing (a b : List ℕ) (i : ℕ) : Type 0 where
-  pub inside : i ≤ length a
-  pub even : length a ≡ length b
-  pub same : same_bytes (drop i a) (drop i b) ≡ same_bytes a b
-
-pub same_lengths : (a b : List ℕ) → (length a ≡ length b → ⊥) → false ≡ same_bytes a b
-same_lengths [] [] n = absurd (n refl)
-same_lengths [] (y ∷ ys) n = refl
-same_lengths (x ∷ xs) [] n = refl
-same_lengths (x ∷ xs) (y ∷ ys) n = go (eqb x y) (same_lengths xs ys (λ q. n (ap suc q)))
+pub comma_place : (s : List ℕ)
+    → cond (ltb (position_or_len (λ b. eqb b comma) s) (length s)) (Some (position_or_len (λ b. eqb b comma) s)) None
+    ≡ below (length s) (comma_at s)
+comma_place s =
+    picks (ltb (position_or_len (λ b. eqb b comma) s) (length s)) _ _
+    ∙ ap (below (length s)) (sym (is_position_or_len comma_at (λ b. eqb b comma) refl step s))
   where
-    go : (t : Bool) {u : Bool} → false ≡ u → false ≡ t && u
-    go true q = q
-    go false q = refl
+    step : (x : ℕ) (xs : List ℕ) → comma_at (x ∷ xs) ≡ cond (eqb x comma) 0 (1 + comma_at xs)
+    step x xs =
+        let e : suc (comma_at xs) ≡ 1 + comma_at xs = omega arith in
+        ap (pick (eqb x comma) 0) e ∙ sym (picks (eqb x comma) 0 (1 + comma_at xs))
 
-pub agreeing_start : {a b : List ℕ} → length a ≡ length b → Agreeing a b 0
-agreeing_start q = record { inside = omega arith; even = q; same = refl }
+-- ---- number: the bytes that are left, read on, give the number of all
 
-module _ {a b : List ℕ} {i : ℕ} (r : Agreeing a b i) (l : i < length a) where
-  agree_next : same_bytes a b ≡ (eqb (get_or a i 0) (get_or b i 0) && same_bytes (drop (suc i) a) (drop (suc i) b))
-  agree_next =
-      let e : length a ≡ length b = r.even in
-      sym r.same ∙ ap (λ x. same_bytes x (drop i b)) (drop-cons a i 0 l)
-      ∙ ap (same_bytes (get_or a i 0 ∷ drop (suc i) a)) (drop-cons b i 0 (omega arith))
+pub record Reading (s : List ℕ) (n : ℕ) (rest : List ℕ) (i : ℕ) : Type 0 where
+  pub small : n < none
+  pub same : number_from n (drop i rest) ≡ number_of s
 
-  pub agreeing_turn : get_or a i 0 ≡ get_or b i 0 → Agreeing a b (i + 1)
-  agreeing_turn q =
-      record {
-        inside = omega arith;
-        even = r.even;
-        same = ap (λ k. same_bytes (drop k a) (drop k b)) (add-one i) ∙ sym (agree_next ∙ rw (eq-eqb (get_or a i 0) (get_or b i 0) q) refl);
-      }
+module _ (b : ℕ) where
+  is_one : (d : ℕ) → Some d ≡ digit_of b → (is_digit b ≡ true) × (b - 48 ≡ d)
+  is_one d = by (λ t. Some d ≡ pick t (Some (b - 48)) None → (t ≡ true) × (b - 48 ≡ d)) (is_digit b)
+      (λ z q. (refl, sym (same_Some d (b - 48) q))) (λ z q. absurd (none-some d (sym q)))
 
-  pub agreeing_not : (get_or a i 0 ≡ get_or b i 0 → ⊥) → false ≡ same_bytes a b
-  agreeing_not n = sym (agree_next ∙ rw (ne_eqb (get_or a i 0) (get_or b i 0) n) refl)
+  is_none : None ≡ digit_of b → is_digit b ≡ false
+  is_none = by (λ t. None ≡ pick t (Some (b - 48)) None → t ≡ false) (is_digit b) (λ z q. absurd (none-some (b - 48) q)) (λ z q. refl)
 
-pub agreeing_end : {a b : List ℕ} {i : ℕ} → Agreeing a b i → length a ≤ i → true ≡ same_bytes a b
-agreeing_end {a} {b} {i} r l =
-    let e : length a ≡ length b = r.even in
-    sym (ap (same_bytes []) (drop_of_length-le b (let z : length b ≤ i = omega arith in z)))
-    ∙ ap (λ x. same_bytes x (drop i b)) (sym (drop_of_length-le a l)) ∙ r.same
+module _ (s : List ℕ) where
+  -- no number comes of these bytes
+  lost : (rest : List ℕ) (n : ℕ) → n ≡ none → number_from n rest ≡ number_of s → None ≡ below none (number_of s)
+  lost rest n q e = ap (below none) (sym (from_none rest) ∙ ap (λ k. number_from k rest) (sym q) ∙ e)
 
--- ---- kind_of
+  pub number_empty : {r : Option ℕ} → length s ≡ 0 → r ≡ None → r ≡ below none (number_of s)
+  unfolding number_of number_from
+  number_empty l q = q ∙ ap (λ z. below none (number_of z)) (sym (nil s l))
+    where
+      nil : (s : List ℕ) → length s ≡ 0 → s ≡ []
+      nil [] l = refl
+      nil (x ∷ xs) l = absurd (let z : ⊥ = omega (arith, l) in z)
 
-module _ (n : List ℕ) {x : Bool} (p : x ≡ same_bytes n setup) where
-  pub kind_1 : x ≡ true → 1 ≡ kind_of n
-  unfolding kind_of
-  kind_1 q = sym (rw (sym p ∙ q) refl)
+  module _ {b : ℕ} {rest : List ℕ} (whole : s ≡ b ∷ rest) where
+    first_on : number_from (digit_read fresh b) rest ≡ number_of s
+    unfolding number_of number_from
+    first_on = ap number_of (sym whole)
 
-  module _ (nx : x ≡ false) {y : Bool} (p₂ : y ≡ same_bytes n malloc) where
-    pub kind_2 : y ≡ true → 2 ≡ kind_of n
-    unfolding kind_of
-    kind_2 q = sym (rw (sym p ∙ nx, sym p₂ ∙ q) refl)
+    pub first_odd : {r : Option ℕ} → None ≡ digit_of b → r ≡ None → r ≡ below none (number_of s)
+    unfolding digit_read
+    first_odd d q = q ∙ lost rest (digit_read fresh b) (rw (is_none b d) refl) first_on
 
-    module _ (ny : y ≡ false) {z : Bool} (p₃ : z ≡ same_bytes n free) where
-      pub kind_3 : z ≡ true → 3 ≡ kind_of n
-      unfolding kind_of
-      kind_3 q = sym (rw (sym p ∙ nx, sym p₂ ∙ ny, sym p₃ ∙ q) refl)
+    pub first_digit : {d : ℕ} → Some d ≡ digit_of b → Reading s d rest 0
+    unfolding digit_read grown
+    first_digit {d} q =
+        let o = is_one b d q in
+        let w = digit_is b o.0 in
+        record {
+          small = omega (arith, o.1, w.0, w.1);
+          same = ap (λ k. number_from k rest) (sym (rw o.0 o.1)) ∙ first_on;
+        }
 
-      module _ (nz : z ≡ false) {v : Bool} (p₄ : v ≡ same_bytes n realloc) where
-        pub kind_4 : v ≡ true → 4 ≡ kind_of n
-        unfolding kind_of
-        kind_4 q = sym (rw (sym p ∙ nx, sym p₂ ∙ ny, sym p₃ ∙ nz, sym p₄ ∙ q) refl)
+  module _ {n : ℕ} {rest : List ℕ} {i : ℕ} (r : Reading s n rest i) where
+    pub number_end : length rest ≤ i → Some n ≡ below none (number_of s)
+    unfolding number_from
+    number_end l = below_yes none n r.small ∙ ap (below none) (ap (number_from n) (sym (drop_of_length-le rest l)) ∙ r.same)
 
-        module _ (nv : v ≡ false) {w : Bool} (p₅ : w ≡ same_bytes n memalign) where
-          pub kind_5 : w ≡ true → 5 ≡ kind_of n
-          unfolding kind_of
-          kind_5 q = sym (rw (sym p ∙ nx, sym p₂ ∙ ny, sym p₃ ∙ nz, sym p₄ ∙ nv, sym p₅ ∙ q) refl)
+    module _ (l : i < length rest) where
+      next_on : number_from (digit_read n (get_or rest i 0)) (drop (i + 1) rest) ≡ number_of s
+      unfolding number_from
+      next_on = ap (λ k. number_from (digit_read n (get_or rest i 0)) (drop k rest)) (add-one i)
+          ∙ ap (number_from n) (sym (drop-cons rest i 0 l)) ∙ r.same
 
-          pub kind_0 : w ≡ false → 0 ≡ kind_of n
-          unfolding kind_of
-          kind_0 q = sym (rw (sym p ∙ nx, sym p₂ ∙ ny, sym p₃ ∙ nz, sym p₄ ∙ nv, sym p₅ ∙ q) refl)
+      next_lost : digit_read n (get_or rest i 0) ≡ none → None ≡ below none (number_of s)
+      next_lost q = lost (drop (i + 1) rest) (digit_read n (get_or rest i 0)) q next_on
 
--- ---- one_number, two_numbers
+      pub next_odd : {o : Option ℕ} → None ≡ digit_of (get_or rest i 0) → o ≡ None → o ≡ below none (number_of s)
+      unfolding digit_read
+      next_odd d q = q ∙ next_lost (rw (is_none (get_or rest i 0) d) refl)
 
-module _ (k n : ℕ) where
-  pub one_none : none ≤ n → Odd ≡ one_number k n
-  unfolding one_number
-  one_none p = sym (rw (le-leb none n p) refl)
+      module _ {d : ℕ} (q : Some d ≡ digit_of (get_or rest i 0)) where
+        read_is : digit_read n (get_or rest i 0) ≡ grown n d
+        unfolding digit_read
+        read_is = rw (is_one (get_or rest i 0) d q).0 (ap (grown n) (is_one (get_or rest i 0) d q).1)
 
-  module _ (p : n < none) where
-    pub one_setup : k ≡ 1 → Setup n ≡ one_number k n
-    unfolding one_number
-    one_setup q = sym (rw (lt-leb none n p, eq-eqb k 1 q) refl)
+        pub next_zero : n ≡ 0 → None ≡ below none (number_of s)
+        unfolding grown
+        next_zero z = next_lost (read_is ∙ rw z refl)
 
-    pub one_malloc : (k ≡ 1 → ⊥) → k ≡ 2 → Malloc n ≡ one_number k n
-    unfolding one_number
-    one_malloc m q = sym (rw (lt-leb none n p, ne_eqb k 1 m, eq-eqb k 2 q) refl)
+        module _ (z : n ≡ 0 → ⊥) where
+          grown_is : grown n d ≡ pick (ltb (n * 10 + d) none) (n * 10 + d) none
+          unfolding grown
+          grown_is = rw (ne_eqb n fresh (λ f. let m = r.small in omega arith), ne_eqb n 0 z) refl
 
-    pub one_free : (k ≡ 1 → ⊥) → (k ≡ 2 → ⊥) → Free n ≡ one_number k n
-    unfolding one_number
-    one_free m q = sym (rw (lt-leb none n p, ne_eqb k 1 m, ne_eqb k 2 q) refl)
+          pub next_over : none ≤ n * 10 + d → None ≡ below none (number_of s)
+          next_over p = next_lost (read_is ∙ grown_is ∙ rw (le-ltb (n * 10 + d) none p) refl)
 
-  module _ (m : ℕ) where
-    pub two_none : none ≤ n → Odd ≡ two_numbers k n m
-    unfolding two_numbers
-    two_none p = sym (rw (le-leb none n p) refl)
+          pub next_digit : n * 10 + d < none → Reading s (n * 10 + d) rest (i + 1)
+          next_digit p = record {
+            small = p;
+            same = ap (λ k. number_from k (drop (i + 1) rest)) (sym (read_is ∙ grown_is ∙ rw (lt-ltb (n * 10 + d) none p) refl)) ∙ next_on;
+          }
 
-    module _ (p : n < none) where
-      pub two_none_2 : none ≤ m → Odd ≡ two_numbers k n m
-      unfolding two_numbers
-      two_none_2 q = sym (rw (lt-leb none n p, le-leb none m q) refl)
+-- ---- the parts before and after the first comma
 
-      module _ (q : m < none) where
-        pub two_realloc : k ≡ 4 → Realloc n m ≡ two_numbers k n m
-        unfolding two_numbers
-        two_realloc z = sym (rw (lt-leb none n p, lt-leb none m q, eq-eqb k 4 z) refl)
-
-        pub two_memalign : (k ≡ 4 → ⊥) → Memalign n m ≡ two_numbers k n m
-        unfolding two_numbers
-        two_memalign z = sym (rw (lt-leb none n p, lt-leb none m q, ne_eqb k 4 z) refl)
-
--- ---- call, read
-
--- a part that ends before the end is as long as it says
-pub part_length : (j : ℕ) (l : List ℕ) → j < length l → length (take j l) ≡ j
-part_length j l p = length-take-le j l (omega arith)
-
--- a part up to the end
 abbrev tail_of : List ℕ → ℕ → List ℕ
 tail_of l n = take (length l - n) (drop n l)
 
 tail_whole : (l : List ℕ) (n : ℕ) → tail_of l n ≡ drop n l
 tail_whole l n = take_all (length l - n) (drop n l) (rw (length-drop n l) (omega arith))
 
-module _ (k : ℕ) (rest : List ℕ) where
-  pub call_none : k ≡ 0 → Odd ≡ called k rest
-  unfolding called
-  call_none q = sym (rw (eq-eqb k 0 q) refl)
-
-  module _ (n : k ≡ 0 → ⊥) where
-    pub call_one : {x : ℕ} {e : Entry} → k < 4 → x ≡ number_of rest → e ≡ one_number k x → e ≡ called k rest
-    unfolding called
-    call_one l q r = r ∙ ap (one_number k) q ∙ sym (rw (ne_eqb k 0 n, lt-ltb k 4 l) refl)
-
-    module _ (l : 4 ≤ k) {j : ℕ} (q : j ≡ comma_at rest) where
-      pub call_no_comma : length rest ≤ j → Odd ≡ called k rest
-      unfolding called
-      call_no_comma p = sym (rw (ne_eqb k 0 n, le-ltb k 4 l, sym q, le-leb (length rest) j p) refl)
-
-      pub call_two : {x y : ℕ} {e : Entry} → j < length rest → x ≡ number_of (take j rest)
-          → y ≡ number_of (take (length rest - (j + 1)) (drop (j + 1) rest)) → e ≡ two_numbers k x y → e ≡ called k rest
-      unfolding called
-      call_two {x} p a b r = r ∙ ap (two_numbers k x) (b ∙ ap number_of (tail_whole rest (j + 1)))
-          ∙ ap (λ z. two_numbers k z (number_of (drop (j + 1) rest))) a
-          ∙ sym (rw (ne_eqb k 0 n, le-ltb k 4 l, sym q, lt-leb (length rest) j p) refl)
+abbrev texts : Option (Bor (List ℕ) × Bor (List ℕ)) → Option (List ℕ × List ℕ)
+texts r = option_map (λ p. (p.0.now, p.1.now)) r
 
 module _ (s : List ℕ) where
-  pub read_long : 64 < length s → Odd ≡ read_record s
+  pub no_parts : {r : Option (Bor (List ℕ) × Bor (List ℕ))} → None ≡ below (length s) (comma_at s) → r ≡ None → texts r ≡ parts_of s
+  unfolding parts_of
+  no_parts q e = ap texts e ∙ sym (rw (le-leb (length s) (comma_at s) (below_none (length s) (comma_at s) q)) refl)
+
+  pub two_parts : {k : ℕ} → Some k ≡ below (length s) (comma_at s) → Some (take k s, tail_of s (k + 1)) ≡ parts_of s
+  unfolding parts_of
+  two_parts {k} q =
+      let b = below_some (length s) (comma_at s) k q in
+      ap (λ z. Some (take k s, z)) (tail_whole s (k + 1)) ∙ sym (rw (lt-leb (length s) (comma_at s) b.0, b.1) refl)
+
+-- whatever is made of the parts
+abbrev made : {A : Type 0} → (List ℕ → List ℕ → A) → A → Option (List ℕ × List ℕ) → A
+made f z None = z
+made f z (Some (ds, es)) = f ds es
+
+made_is : {A : Type 0} (bs : List ℕ) (f : List ℕ → List ℕ → A) (z : A) → made f z (parts_of bs) ≡ cut_at (comma_at bs) bs f z
+unfolding parts_of
+made_is bs f z = by (λ t. made f z (pick t None (Some (take (comma_at bs) bs, drop (comma_at bs + 1) bs)))
+    ≡ pick t z (f (take (comma_at bs) bs) (drop (comma_at bs + 1) bs))) (leb (length bs) (comma_at bs)) (λ y. refl) (λ y. refl)
+
+-- ---- call_in
+
+module _ (s : List ℕ) where
+  pub call_long : 64 < length s → Odd ≡ read_record s
   unfolding read_record
-  read_long p = sym (rw (lt-ltb 64 (length s) p) refl)
+  call_long p = sym (rw (lt-ltb 64 (length s) p) refl)
 
-  module _ (o : length s ≤ 64) {j : ℕ} (q : j ≡ comma_at s) where
-    pub read_no_comma : length s ≤ j → Odd ≡ read_record s
+  module _ (o : length s ≤ 64) where
+    record_is : made (λ name rest. called (kind_of name) rest) Odd (parts_of s) ≡ read_record s
     unfolding read_record
-    read_no_comma p = sym (rw (le-ltb 64 (length s) o, sym q, le-leb (length s) j p) refl)
+    record_is = made_is s (λ name rest. called (kind_of name) rest) Odd ∙ sym (rw (le-ltb 64 (length s) o) refl)
 
-    pub read_call : {k : ℕ} {e : Entry} → j < length s → k ≡ kind_of (take j s) → e ≡ called k (take (length s - (j + 1)) (drop (j + 1) s))
+    pub call_no_comma : {r : Option Entry} → None ≡ parts_of s → r ≡ None → or_odd r ≡ read_record s
+    call_no_comma q e = ap or_odd e ∙ ap (made (λ name rest. called (kind_of name) rest) Odd) q ∙ record_is
+
+    pub call_found : {e : Entry} {name rest : List ℕ} → Some (name, rest) ≡ parts_of s → e ≡ called (kind_of name) rest
         → e ≡ read_record s
-    unfolding read_record
-    read_call {k} p a r = r ∙ ap (called k) (tail_whole s (j + 1)) ∙ ap (λ z. called z (drop (j + 1) s)) a
-        ∙ sym (rw (le-ltb 64 (length s) o, sym q, lt-leb (length s) j p) refl)
+    call_found q e = e ∙ ap (made (λ name rest. called (kind_of name) rest) Odd) q ∙ record_is
+
+-- ---- call: the name, then what stands behind it
+
+-- the name's bytes as text
+pub text_is : {E : Type 0} (Q : Type 0) {name : List ℕ} (P : E → Type 0) (r : Result (Bor (List ℕ)) E) (t : Bor (List ℕ))
+    → MatchResult r (λ s. (s.now ≡ name) × Q) P → Some t ≡ result_ok r → t.now ≡ name
+text_is Q P (Ok s) t m q = ap (λ x. x.now) (same_Some t s q) ∙ m.0
+text_is Q P (Err e) t m q = absurd (none-some t (sym q))
+
+no_text : {E U : Type 0} (F : Bor (List ℕ) → Type 0) (V : E → Type 0) (r : Result (Bor (List ℕ)) E)
+    → MatchResult r F (λ e. (U → ⊥) × V e) → None ≡ result_ok r → U → ⊥
+no_text F V (Ok s) m q = absurd (none-some s q)
+no_text F V (Err e) m q = m.0
+
+module _ (name : List ℕ) where
+  another : (text : List ℕ) → (name ≡ text → ⊥) → same_bytes name text ≡ false
+  another text n = by (λ t. same_bytes name text ≡ t → t ≡ false) (same_bytes name text)
+      (λ z w. absurd (n (same_bytes_lem name text w))) (λ z w. refl) refl
+
+  none_named : (name ≡ setup → ⊥) → (name ≡ malloc → ⊥) → (name ≡ free → ⊥) → (name ≡ realloc → ⊥) → (name ≡ memalign → ⊥) → kind_of name ≡ 0
+  unfolding kind_of
+  none_named a b c d e = rw (another setup a, another malloc b, another free c, another realloc d, another memalign e) refl
+
+  -- the five names are text
+  kind_none : (IsUtf8 name → ⊥) → kind_of name ≡ 0
+  unfolding encode
+  kind_none n =
+      none_named (λ q. n (subst IsUtf8 (sym q) (setup, (refl, refl)))) (λ q. n (subst IsUtf8 (sym q) (malloc, (refl, refl))))
+      (λ q. n (subst IsUtf8 (sym q) (free, (refl, refl)))) (λ q. n (subst IsUtf8 (sym q) (realloc, (refl, refl))))
+      (λ q. n (subst IsUtf8 (sym q) (memalign, (refl, refl))))
+
+  module _ {t : List ℕ} (e : t ≡ name) where
+    pub kind_setup : t ≡ setup → kind_of name ≡ 1
+    unfolding kind_of
+    kind_setup q = ap kind_of (sym e ∙ q)
+
+    pub kind_malloc : t ≡ malloc → kind_of name ≡ 2
+    unfolding kind_of
+    kind_malloc q = ap kind_of (sym e ∙ q)
+
+    pub kind_free : t ≡ free → kind_of name ≡ 3
+    unfolding kind_of
+    kind_free q = ap kind_of (sym e ∙ q)
+
+    pub kind_realloc : t ≡ realloc → kind_of name ≡ 4
+    unfolding kind_of
+    kind_realloc q = ap kind_of (sym e ∙ q)
+
+    pub kind_memalign : t ≡ memalign → kind_of name ≡ 5
+    unfolding kind_of
+    kind_memalign q = ap kind_of (sym e ∙ q)
+
+    pub kind_other : (t ≡ setup → ⊥) → (t ≡ malloc → ⊥) → (t ≡ free → ⊥) → (t ≡ realloc → ⊥) → (t ≡ memalign → ⊥) → kind_of name ≡ 0
+    kind_other a b c d f = none_named (λ q. a (e ∙ q)) (λ q. b (e ∙ q)) (λ q. c (e ∙ q)) (λ q. d (e ∙ q)) (λ q. f (e ∙ q))
+
+-- the call of two numbers
+abbrev told : ℕ → Option (ℕ × ℕ) → Entry
+told kind None = Odd
+told kind (Some (n, m)) = pick (eqb kind 4) (Realloc n m) (Memalign n m)
+
+two_is : (kind n m : ℕ) → two_numbers kind n m ≡ told kind (both (below none n) (below none m))
+unfolding two_numbers
+two_is kind n m = ⊎_elim
+    (λ p. ⊎_elim
+    (λ q. rw (lt-leb none n p, lt-ltb n none p, lt-leb none m q, lt-ltb m none q) refl)
+    (λ q. rw (lt-leb none n p, lt-ltb n none p, le-leb none m q, le-ltb m none q) refl)
+    (lt_or_le m none))
+    (λ p. rw (le-leb none n p, le-ltb n none p) refl)
+    (lt_or_le n none)
+
+module _ (rest : List ℕ) where
+  pub call_other : {kind : ℕ} → kind ≡ 0 → Odd ≡ called kind rest
+  unfolding called
+  call_other k = sym (rw k refl)
+
+  pub call_no_text : {E : Type 0} (F : Bor (List ℕ) → Type 0) (V : E → Type 0) (name : List ℕ) (r : Result (Bor (List ℕ)) E) {o : Option Entry}
+      → MatchResult r F (λ e. (IsUtf8 name → ⊥) × V e) → None ≡ result_ok r → o ≡ None → or_odd o ≡ called (kind_of name) rest
+  call_no_text F V name r m q e = ap or_odd e ∙ call_other (kind_none name (no_text F V r m q))
+
+  -- one number
+  one_lost : None ≡ below none (number_of rest) → (k : ℕ) → Odd ≡ one_number k (number_of rest)
+  unfolding one_number
+  one_lost q k = sym (rw (le-leb none (number_of rest) (below_none none (number_of rest) q)) refl)
+
+  pub one_none : (kind : ℕ) {r : Option Entry} → kind < 4 → 0 < kind → None ≡ below none (number_of rest) → r ≡ None → or_odd r ≡ called kind rest
+  unfolding called
+  one_none kind l p q e = ap or_odd e ∙ one_lost q kind ∙ sym (rw (ne_eqb kind 0 (λ z. omega arith), lt-ltb kind 4 l) refl)
+
+  module _ {n : ℕ} (q : Some n ≡ below none (number_of rest)) where
+    small : number_of rest < none
+    small = (below_some none (number_of rest) n q).0
+
+    same : number_of rest ≡ n
+    same = (below_some none (number_of rest) n q).1
+
+    pub one_setup : {kind : ℕ} → kind ≡ 1 → Setup n ≡ called kind rest
+    unfolding called one_number
+    one_setup k = sym (rw (k, lt-leb none (number_of rest) small, same) refl)
+
+    pub one_malloc : {kind : ℕ} → kind ≡ 2 → Malloc n ≡ called kind rest
+    unfolding called one_number
+    one_malloc k = sym (rw (k, lt-leb none (number_of rest) small, same) refl)
+
+    pub one_free : {kind : ℕ} → kind ≡ 3 → Free n ≡ called kind rest
+    unfolding called one_number
+    one_free k = sym (rw (k, lt-leb none (number_of rest) small, same) refl)
+
+  -- two numbers
+  told_is : (kind : ℕ) → 4 ≤ kind → told kind (two_numbers_of rest) ≡ called kind rest
+  unfolding called
+  told_is kind l =
+      told_made (parts_of rest) ∙ made_is rest (λ ds es. two_numbers kind (number_of ds) (number_of es)) Odd
+      ∙ sym (rw (ne_eqb kind 0 (λ z. omega arith), le-ltb kind 4 l) refl)
+    where
+      told_made : (o : Option (List ℕ × List ℕ))
+          → told kind (numbers_in o) ≡ made (λ ds es. two_numbers kind (number_of ds) (number_of es)) Odd o
+      told_made None = refl
+      told_made (Some (ds, es)) = sym (two_is kind (number_of ds) (number_of es))
+
+  pub two_none : (kind : ℕ) {r : Option Entry} → 4 ≤ kind → None ≡ two_numbers_of rest → r ≡ None → or_odd r ≡ called kind rest
+  two_none kind l q e = ap or_odd e ∙ ap (told kind) q ∙ told_is kind l
+
+  module _ {n m : ℕ} (q : Some (n, m) ≡ two_numbers_of rest) where
+    pub two_realloc : {kind : ℕ} → kind ≡ 4 → Realloc n m ≡ called kind rest
+    two_realloc {kind} k = sym (ap (λ z. told z (Some (n, m))) k) ∙ ap (told kind) q ∙ told_is kind (omega (arith, k))
+
+    pub two_memalign : {kind : ℕ} → kind ≡ 5 → Memalign n m ≡ called kind rest
+    two_memalign {kind} k = sym (ap (λ z. told z (Some (n, m))) k) ∙ ap (told kind) q ∙ told_is kind (omega (arith, k))
 
 pub ruleset laws = (
-  part_length,
-  not-true,
-  not-false,
-  digit_low,
-  digit_high,
-  digit_first,
-  digit-zero,
-  digit_out,
-  digit-fits,
-  digit_over,
-  reading_start,
-  reading_turn,
-  reading_end,
-  seeking_start,
-  seeking_turn,
-  seeking_found,
-  seeking_end,
-  same_lengths,
-  agreeing_start,
-  agreeing_turn,
-  agreeing_not,
-  agreeing_end,
-  kind_1,
-  kind_2,
-  kind_3,
-  kind_4,
-  kind_5,
-  kind_0,
+  below_yes,
+  below_no,
+  number_empty,
+  first_odd,
+  first_digit,
+  number_end,
+  next_odd,
+  next_zero,
+  next_over,
+  next_digit,
+  kind_setup,
+  kind_malloc,
+  kind_free,
+  kind_realloc,
+  kind_memalign,
+  kind_other,
+  call_other,
   one_none,
   one_setup,
   one_malloc,
   one_free,
   two_none,
-  two_none_2,
   two_realloc,
   two_memalign,
-  call_none,
-  call_one,
-  call_no_comma,
-  call_two,
-  read_long,
-  read_no_comma,
-  read_call,
 )

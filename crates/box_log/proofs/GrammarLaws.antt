@@ -110,7 +110,7 @@ form_is_taken bs e h = ap read_record h.spelt ∙ taken e h.within
 
 -- ---- what is taken has the form
 
-same_bytes_lem : (xs ys : List ℕ) → same_bytes xs ys ≡ true → xs ≡ ys
+pub same_bytes_lem : (xs ys : List ℕ) → same_bytes xs ys ≡ true → xs ≡ ys
 same_bytes_lem [] [] q = refl
 same_bytes_lem [] (y ∷ ys) q = false-true q
 same_bytes_lem (x ∷ xs) [] q = false-true q

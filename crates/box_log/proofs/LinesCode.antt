@@ -2,15 +2,18 @@
 use mathlib.Core.Bool.{true}
 use mathlib.Core.List.{List, [], ◌∷◌, ◌++◌, append_assoc}
 use mathlib.Core.Path.{◌≡◌, refl, sym, ap, ◌∙◌}
-use Prim.Native.Nat.{ℕ, suc, ◌+◌, ◌-◌, ◌/◌, ◌%◌, ◌^◌, ◌≤◌, ◌<◌}
+use Prim.Native.Nat.{ℕ, suc, ◌+◌, ◌-◌, ◌%◌, ◌^◌, ◌≤◌, ◌<◌}
+use Rattle.std.specs.Fmt.{decimal as std_decimal}
+use Rattle.std.proofs.lemmas.Fmt.{decimal_by_steps}
+use Rattle.std.proofs.lemmas.List.Edits.{sets-eq}
+use borrow.Rule.Slice.PartMut.{put_mid}
 use native.Mathlib.Nat.{add-zero, add-suc, suc-add}
 use native.Mathlib.Omega.{arith}
-use native.Mathlib.Numerals.{add-one}
-use lib.ListN.{length, get_or, set, drop, drop_of_length-le, length-append, length-set}
-use lib.Seq.{sets, length-sets, drop-cons}
+use lib.ListN.{length, set, take, drop, length-append}
+use lib.Seq.{sets, length-sets, drop-drop}
 use borrow.Author.Tests.{le-leb, lt-leb}
 use Rattle.box_log.specs.Decimals.{decimal}
-use Rattle.box_log.proofs.DecimalLaws.{decimal_digit, decimal_more, decimal_twenty}
+use Rattle.box_log.proofs.DecimalLaws.{decimal_digit, decimal_more}
 use Rattle.box_log.specs.Grammar.{comma}
 use Rattle.box_log.specs.Answers.{header, field, answer_line, has_room, line_put, line_end, header_put, header_end}
 
@@ -24,63 +27,39 @@ sets_append l i (x ∷ xs) ys = sets_append (set l i x) (suc i) xs ys
 then : (l l₁ l₂ : List ℕ) (i j : ℕ) (xs ys : List ℕ) → l₁ ≡ sets l i xs → j ≡ i + length xs → l₂ ≡ sets l₁ j ys → l₂ ≡ sets l i (xs ++ ys)
 then l l₁ l₂ i j xs ys p q r = r ∙ ap (λ z. sets z j ys) p ∙ ap (λ k. sets (sets l i xs) k ys) q ∙ sym (sets_append l i xs ys)
 
--- ---- put_decimal
+-- ---- put_text
 
-module _ (n : ℕ) where
-  length-digit : n < 10 → length (decimal n) ≡ 1
-  length-digit p = ap length (decimal_digit n p)
-
-  length_more : 10 ≤ n → length (decimal n) ≡ length (decimal (n / 10)) + 1
-  length_more p = ap length (decimal_more n p) ∙ length-append (decimal (n / 10)) ((48 + n % 10) ∷ [])
-
-  pub digit_room : (a b : ℕ) → n < 10 → a + length (decimal n) ≤ b → a + 1 ≤ b
-  digit_room a b p q = omega (arith, length-digit p)
-
-  pub digit-put : (l k : List ℕ) (a : ℕ) → n < 10 → k ≡ sets l a ((48 + n) ∷ []) → k ≡ sets l a (decimal n)
-  digit-put l k a p q = q ∙ ap (sets l a) (sym (decimal_digit n p))
-
-  pub digit_end : (a x : ℕ) → n < 10 → x ≡ a + 1 → x ≡ a + length (decimal n)
-  digit_end a x p q = q ∙ ap (λ z. a + z) (sym (length-digit p))
-
-  pub more_room : (a b : ℕ) → 10 ≤ n → a + length (decimal n) ≤ b → a + length (decimal (n / 10)) ≤ b
-  more_room a b p q = omega (arith, length_more p)
-
-  pub more_room_2 : (a b j k : ℕ) → 10 ≤ n → a + length (decimal n) ≤ b → j ≡ b → k ≡ a + length (decimal (n / 10)) → k + 1 ≤ j
-  more_room_2 a b j k p q r s = omega (arith, length_more p)
-
-  pub more_put : (l l₁ l₂ : List ℕ) (a k : ℕ) → 10 ≤ n → l₁ ≡ sets l a (decimal (n / 10)) → k ≡ a + length (decimal (n / 10))
-      → l₂ ≡ sets l₁ k ((48 + n % 10) ∷ []) → l₂ ≡ sets l a (decimal n)
-  more_put l l₁ l₂ a k p q r s = then l l₁ l₂ a k (decimal (n / 10)) ((48 + n % 10) ∷ []) q r s ∙ ap (sets l a) (sym (decimal_more n p))
-
-  pub more_end : (a k x : ℕ) → 10 ≤ n → k ≡ a + length (decimal (n / 10)) → x ≡ k + 1 → x ≡ a + length (decimal n)
-  more_end a k x p q r = omega (arith, length_more p)
-
-  pub tenth : 10 ≤ n → n / 10 < n
-  tenth p = omega arith
+-- a part that was lent is filled with the text
+pub text_put : (l p : List ℕ) (i j : ℕ) (xs : List ℕ) → j ≡ i + length xs → i + length xs ≤ length l → p ≡ xs
+    → put_mid i (j - i) l p ≡ sets l i xs
+text_put l p i j xs e r q =
+    let k : i + (j - i) ≡ i + length xs = omega (arith, e) in
+    ap (λ z. take i l ++ (z ++ drop (j - i) (drop i l))) q
+    ∙ ap (λ z. take i l ++ (xs ++ z)) (drop-drop (j - i) i l ∙ ap (λ z. drop z l) k)
+    ∙ sym (append_assoc (take i l) xs (drop (i + length xs) l)) ∙ sym (sets-eq xs l i r)
 
 -- ---- put_field, put_line
 
-module _ (n end : ℕ) where
-  length-field : length (field n end) ≡ length (decimal n) + 1
-  unfolding field
-  length-field = length-append (decimal n) (end ∷ [])
+-- std writes the same text
+pub same_decimal : (n : ℕ) → n < 2 ^ 64 → decimal n ≡ std_decimal n
+same_decimal = decimal_by_steps (λ n ds. decimal n ≡ ds) decimal_digit
+    (λ n ds p e. decimal_more n p ∙ ap (λ l. l ++ ((48 + n % 10) ∷ [])) e)
 
-  pub field_room : (a b : ℕ) → n < 2 ^ 64 → a + 21 ≤ b → a + length (decimal n) ≤ b
-  field_room a b p q = omega (arith, decimal_twenty n p)
+module _ (n end : ℕ) (p : n < 2 ^ 64) {ds : List ℕ} (d : ds ≡ std_decimal n) where
+  digits_are : ds ≡ decimal n
+  digits_are = d ∙ sym (same_decimal n p)
 
-  pub field_room_2 : (a b j k : ℕ) → n < 2 ^ 64 → a + 21 ≤ b → j ≡ b → k ≡ a + length (decimal n) → k + 1 ≤ j
-  field_room_2 a b j k p q r s = omega (arith, decimal_twenty n p)
-
-  pub field_put : (l l₁ l₂ : List ℕ) (a k : ℕ) → l₁ ≡ sets l a (decimal n) → k ≡ a + length (decimal n) → l₂ ≡ sets l₁ k (end ∷ [])
+  pub field_put : (l l₁ l₂ : List ℕ) (a k : ℕ) → l₁ ≡ sets l a ds → k ≡ a + length ds → l₂ ≡ sets l₁ k (end ∷ [])
       → l₂ ≡ sets l a (field n end)
   unfolding field
-  field_put l l₁ l₂ a k p q r = then l l₁ l₂ a k (decimal n) (end ∷ []) p q r
+  field_put l l₁ l₂ a k q r s = then l l₁ l₂ a k ds (end ∷ []) q r s ∙ ap (λ z. sets l a (z ++ (end ∷ []))) digits_are
 
-  pub field_end : (a k x : ℕ) → k ≡ a + length (decimal n) → x ≡ k + 1 → x ≡ a + length (field n end)
-  field_end a k x p q = omega (arith, length-field)
-
-  pub field_short : (a k x : ℕ) → n < 2 ^ 64 → k ≡ a + length (decimal n) → x ≡ k + 1 → x ≤ a + 21
-  field_short a k x p q r = omega (arith, decimal_twenty n p)
+  pub field_end : (a k x : ℕ) → k ≡ a + length ds → x ≡ k + 1 → x ≡ a + length (field n end)
+  unfolding field
+  field_end a k x r s =
+      let e : length ds ≡ length (decimal n) = ap length digits_are in
+      let f : length (decimal n ++ (end ∷ [])) ≡ length (decimal n) + 1 = length-append (decimal n) (end ∷ []) in
+      omega (arith, e, f, r, s)
 
 whole : (line refusal offset : ℕ) → field line 44 ++ (field refusal 44 ++ (field offset 13 ++ (10 ∷ []))) ≡ answer_line line refusal offset
 unfolding field answer_line
@@ -135,35 +114,7 @@ module _ (l : List ℕ) (at line refusal offset : ℕ) where
           (length (field refusal 44) + (length (field offset 13) + 1)) = ap length (sym (whole line refusal offset)) ∙ k in
           (let z : x ≡ at + length (answer_line line refusal offset) = omega arith in z) ∙ sym (rw (no_room (omega arith)) refl)
 
--- ---- put_text, put_header: the bytes that are left, stored on, give the whole text stored
-
-pub record Storing (out₀ : List ℕ) (at : ℕ) (text out : List ℕ) (i : ℕ) : Type 0 where
-  pub inside : i ≤ length text
-  pub room : at + length text ≤ length out
-  pub even : length out ≡ length out₀
-  pub same : sets out (at + i) (drop i text) ≡ sets out₀ at text
-
-pub storing_start : (out : List ℕ) (at : ℕ) (text : List ℕ) → at + length text ≤ length out → Storing out at text out 0
-storing_start out at text p = record { inside = omega arith; room = p; even = refl; same = ap (λ k. sets out k text) (add-zero at) }
-
-pub storing_turn : {out₀ text out : List ℕ} {at i : ℕ} → Storing out₀ at text out i → i < length text
-    → Storing out₀ at text (set out (at + i) (get_or text i 0)) (i + 1)
-storing_turn {out₀} {text} {out} {at} {i} s l =
-    record {
-      inside = omega arith;
-      room = simp length-set s.room;
-      even = length-set out (at + i) (get_or text i 0) ∙ s.even;
-      same = ap (λ k. sets (set out (at + i) (get_or text i 0)) k (drop (i + 1) text)) (let z : at + (i + 1) ≡ suc (at + i) = omega arith in
-          z)
-          ∙ ap (λ k. sets (set out (at + i) (get_or text i 0)) (suc (at + i)) (drop k text)) (add-one i)
-          ∙ ap (sets out (at + i)) (sym (drop-cons text i 0 l)) ∙ s.same;
-    }
-
-pub storing_end : {out₀ text out : List ℕ} {at i : ℕ} → Storing out₀ at text out i → length text ≤ i → out ≡ sets out₀ at text
-storing_end {out₀} {text} {out} {at} {i} s l = ap (sets out (at + i)) (sym (drop_of_length-le text l)) ∙ s.same
-
-pub storing_place : {out₀ text out : List ℕ} {at i : ℕ} → Storing out₀ at text out i → length text ≤ i → at + i ≡ at + length text
-storing_place s l = let a = s.inside in omega arith
+-- ---- put_header
 
 module _ (out : List ℕ) where
   pub header_none : length out < 64 → out ≡ header_put out
@@ -186,27 +137,13 @@ module _ (out : List ℕ) where
   header_end_lem l q = q ∙ sym (rw (le-leb 64 (length out) l) refl)
 
 pub ruleset laws = (
-  storing_start,
-  storing_turn,
-  storing_end,
-  storing_place,
+  text_put,
   header_none,
   header_none_end,
   header-put,
   header_end_lem,
-  digit_room,
-  digit-put,
-  digit_end,
-  more_room,
-  more_room_2,
-  more_put,
-  more_end,
-  tenth,
-  field_room,
-  field_room_2,
   field_put,
   field_end,
-  field_short,
   past_put,
   past_end,
   tight_put,

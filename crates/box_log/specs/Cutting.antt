@@ -1,14 +1,12 @@
 -- THE STREAM CUT INTO RECORDS: first what the records of a stream are, then the steps, a byte at a time, with a line of 64 bytes. Assumes
 -- nothing.
-use Rattle.std.specs.Prelude.{Bool, true, false, ◌&&◌, List, [], ◌∷◌, map, ℕ, ◌+◌, eqb, ltb, length, take, set}
+use Rattle.std.specs.Prelude.{Bool, Option, None, Some, true, false, ◌&&◌, List, [], ◌∷◌, map, ℕ, ◌+◌, eqb, ltb, length, take, set}
 use Rattle.words.specs.Logic.{pick}
 use Rattle.box_log.specs.Grammar.{read_record}
 use Rattle.box_log.specs.declared.entry.Entry.{Entry}
 use Rattle.box_log.specs.declared.entry.Entry.TheVariants.{Odd}
 use Rattle.box_log.specs.declared.cut.Place.{Place}
 use Rattle.box_log.specs.declared.cut.Step.{Step}
-use Rattle.box_log.specs.declared.cut.Got.{Got}
-use Rattle.box_log.specs.declared.cut.Got.TheVariants.{Nothing, Record}
 
 -- ---- the records of a stream
 
@@ -42,7 +40,7 @@ read_line line held = pick (ltb (length line) held) Odd (read_record (take held 
 abbrev pub at : ℕ → Bool → Place
 at held cr = record { held = held; cr = cr }
 
-abbrev pub step : ℕ → Bool → Got → Step
+abbrev pub step : ℕ → Bool → Option Entry → Step
 step held cr got = record { place = at held cr; got = got }
 
 -- a byte where no CR came before it: a CR waits for the next byte
@@ -50,7 +48,7 @@ unfoldable pub plain_line : List ℕ → ℕ → ℕ → List ℕ
 plain_line line held b = pick (eqb b 13) line (set line held b)
 
 unfoldable pub plain_step : ℕ → ℕ → Step
-plain_step held b = pick (eqb b 13) (step held true Nothing) (step (more held) false Nothing)
+plain_step held b = pick (eqb b 13) (step held true None) (step (more held) false None)
 
 -- a byte where a CR may have come before it: an LF ends the record, any other byte makes the CR one of the record's bytes
 unfoldable pub line_after : List ℕ → Place → ℕ → List ℕ
@@ -59,22 +57,22 @@ line_after line p b =
 
 unfoldable pub step_at : List ℕ → Place → ℕ → Step
 step_at line p b =
-    pick p.cr (pick (eqb b 10) (step 0 false (Record (read_line line p.held))) (plain_step (more p.held) b)) (plain_step p.held b)
+    pick p.cr (pick (eqb b 10) (step 0 false (Some (read_line line p.held))) (plain_step (more p.held) b)) (plain_step p.held b)
 
 -- the end of the stream
 unfoldable pub line_at_end : List ℕ → Place → List ℕ
 line_at_end line p = pick p.cr (set line p.held 13) line
 
-unfoldable pub ending : List ℕ → Place → Got
+unfoldable pub ending : List ℕ → Place → Option Entry
 ending line p =
-    pick p.cr (Record (read_line (set line p.held 13) (more p.held)))
-    (pick (eqb p.held 0) Nothing (Record (read_line line p.held)))
+    pick p.cr (Some (read_line (set line p.held 13) (more p.held)))
+    (pick (eqb p.held 0) None (Some (read_line line p.held)))
 
 -- ---- a run of the steps
 
-abbrev pub hand_out : Got → List Entry → List Entry
-hand_out Nothing es = es
-hand_out (Record e) es = e ∷ es
+abbrev pub hand_out : Option Entry → List Entry → List Entry
+hand_out None es = es
+hand_out (Some e) es = e ∷ es
 
 -- over the bytes, and then the end
 unfoldable pub handed : List ℕ → Place → List ℕ → List Entry

@@ -1,10 +1,12 @@
 // One record of the log, read from its bytes.
 ghost use Rattle.std.specs.Prelude.{◌≡◌};
-ghost use Rattle.box_log.specs.Decimals.{digit_read, number_of};
-ghost use Rattle.box_log.specs.Grammar.{same_bytes, comma_at, kind_of, one_number, two_numbers, called, read_record};
+ghost use Rattle.std.specs.Option.{option_map};
+ghost use Rattle.box_log.specs.Decimals.{none, number_of};
+ghost use Rattle.box_log.specs.Grammar.{kind_of, called, read_record};
+ghost use Rattle.box_log.specs.Found.{below, digit_of, parts_of, two_numbers_of, or_odd};
 
 // What a record says: the call and its numbers, or that it has another form.
-#[derive(Clone, Copy)]
+#[derive(Clone, Copy, PartialEq, Eq, Debug)]
 pub enum Entry {
     Setup(u64),
     Malloc(u64),
@@ -14,170 +16,87 @@ pub enum Entry {
     Odd,
 }
 
-// No plain decimal up to 65,535.
-const NONE: u64 = 65536;
+// The largest number that a record may hold.
+const MOST: u64 = 65535;
 
-// No digit was read yet.
-const FRESH: u64 = 65537;
-
-fn wide(b: u8) -> u64
-    ensures { result ≡ b }
+fn digit(b: u8) -> Option<u64>
+    ensures { result ≡ digit_of b }
 {
-    b as u64
+    match b {
+        b'0'..=b'9' => Some(u64::from(b - b'0')),
+        _ => None,
+    }
 }
 
-// The number so far, with one byte more. A second digit after a lone 0 makes it none.
-fn digit_read(s: u64, b: u8) -> u64
-    ensures { result ≡ digit_read s b }
+// The number that the bytes are the plain decimal of. No digit stands behind a lone 0.
+fn number(s: &[u8]) -> Option<u64>
+    ensures { result ≡ below none (number_of s.now) }
 {
-    if b < 48 {
-        return NONE;
-    }
-    if b > 57 {
-        return NONE;
-    }
-    let d = wide(b) - 48;
-    if s == FRESH {
-        return d;
-    }
-    if s == 0 {
-        return NONE;
-    }
-    if s >= NONE {
-        return NONE;
-    }
-    let n = s * 10 + d;
-    if n < NONE {
-        return n;
-    }
-    NONE
-}
-
-// The number that the bytes are the plain decimal of; 65,536 or more where they are none.
-fn number(s: &[u8]) -> u64
-    ensures { result ≡ number_of s.now }
-{
-    let mut n = FRESH;
-    let mut i: usize = 0;
-    while i < s.len() {
-        n = digit_read(n, s[i]);
-        i += 1;
-    }
-    n
-}
-
-// Where the first comma stands; the length where there is none.
-fn comma_at(s: &[u8]) -> usize
-    ensures { result ≡ comma_at s.now }
-{
-    let mut i: usize = 0;
-    while i < s.len() {
-        if s[i] == b',' {
-            return i;
+    let (first, rest) = s.split_first()?;
+    let mut n = digit(*first)?;
+    for b in rest {
+        let d = digit(*b)?;
+        if n == 0 {
+            return None;
         }
-        i += 1;
-    }
-    i
-}
-
-fn same(a: &[u8], b: &[u8]) -> bool
-    ensures { result ≡ same_bytes a.now b.now }
-{
-    if a.len() != b.len() {
-        return false;
-    }
-    let mut i: usize = 0;
-    while i < a.len() {
-        if a[i] != b[i] {
-            return false;
+        n = n * 10 + d;
+        if n > MOST {
+            return None;
         }
-        i += 1;
     }
-    true
+    Some(n)
 }
 
-// 1 to 5 for the five names, in document 02's order; 0 for another.
-fn kind_of(name: &[u8]) -> u64
-    ensures { result ≡ kind_of name.now }
+// The parts before and after the first comma.
+fn parts(s: &[u8]) -> Option<(&[u8], &[u8])>
+    ensures { option_map (λ p. (p.0.now, p.1.now)) result ≡ parts_of s.now }
 {
-    if same(name, b"setup") {
-        return 1;
-    }
-    if same(name, b"malloc") {
-        return 2;
-    }
-    if same(name, b"free") {
-        return 3;
-    }
-    if same(name, b"realloc") {
-        return 4;
-    }
-    if same(name, b"memalign") {
-        return 5;
-    }
-    0
+    let k = s.iter().position(|b| *b == b',')?;
+    Some((&s[..k], &s[k + 1..]))
 }
 
-fn one_number(kind: u64, n: u64) -> Entry
-    ensures { result ≡ one_number kind n }
+// Two numbers with a comma between them.
+fn two_numbers(s: &[u8]) -> Option<(u64, u64)>
+    ensures { result ≡ two_numbers_of s.now }
 {
-    if n >= NONE {
-        return Entry::Odd;
-    }
-    if kind == 1 {
-        return Entry::Setup(n);
-    }
-    if kind == 2 {
-        return Entry::Malloc(n);
-    }
-    Entry::Free(n)
+    let (n, m) = parts(s)?;
+    Some((number(n)?, number(m)?))
 }
 
-fn two_numbers(kind: u64, n: u64, m: u64) -> Entry
-    ensures { result ≡ two_numbers kind n m }
+// The call of that name, with the numbers that stand behind the name's comma.
+fn call(name: &[u8], rest: &[u8]) -> Option<Entry>
+    ensures { or_odd result ≡ called (kind_of name.now) rest.now }
 {
-    if n >= NONE {
-        return Entry::Odd;
+    match str::from_utf8(name).ok()? {
+        "setup" => Some(Entry::Setup(number(rest)?)),
+        "malloc" => Some(Entry::Malloc(number(rest)?)),
+        "free" => Some(Entry::Free(number(rest)?)),
+        "realloc" => {
+            let (b, n) = two_numbers(rest)?;
+            Some(Entry::Realloc(b, n))
+        }
+        "memalign" => {
+            let (a, n) = two_numbers(rest)?;
+            Some(Entry::Memalign(a, n))
+        }
+        _ => None,
     }
-    if m >= NONE {
-        return Entry::Odd;
-    }
-    if kind == 4 {
-        return Entry::Realloc(n, m);
-    }
-    Entry::Memalign(n, m)
 }
 
-// The record of a name, by what stands after the name's comma.
-fn call(kind: u64, rest: &[u8]) -> Entry
-    ensures { result ≡ called kind rest.now }
+// The call that a record holds. Longer than 64 bytes it holds none.
+fn call_in(s: &[u8]) -> Option<Entry>
+    ensures { or_odd result ≡ read_record s.now }
 {
-    if kind == 0 {
-        return Entry::Odd;
+    if s.len() > 64 {
+        return None;
     }
-    if kind < 4 {
-        return one_number(kind, number(rest));
-    }
-    let k = comma_at(rest);
-    if k >= rest.len() {
-        return Entry::Odd;
-    }
-    let n = number(&rest[..k]);
-    let m = number(&rest[k + 1..]);
-    two_numbers(kind, n, m)
+    let (name, rest) = parts(s)?;
+    call(name, rest)
 }
 
-// What the record says. Longer than 64 bytes it has no form.
+// What the record says.
 pub fn read(s: &[u8]) -> Entry
     ensures { result ≡ read_record s.now }
 {
-    if s.len() > 64 {
-        return Entry::Odd;
-    }
-    let k = comma_at(s);
-    if k >= s.len() {
-        return Entry::Odd;
-    }
-    let kind = kind_of(&s[..k]);
-    call(kind, &s[k + 1..])
+    call_in(s).unwrap_or(Entry::Odd)
 }

@@ -1,28 +1,16 @@
 // The lines that answer the records.
 ghost use Rattle.std.specs.Prelude.{◌≡◌, [], ◌∷◌, ◌+◌, ◌≤◌, length};
 ghost use Rattle.std.proofs.lemmas.List.Edits.{sets};
-ghost use Rattle.box_log.specs.Decimals.{decimal};
 ghost use Rattle.box_log.specs.Answers.{field, line_put, line_end, header_put, header_end};
 
-fn put_byte(out: &mut [u8], at: usize, b: u8) -> usize
-    requires { at + 1 ≤ length out.old }
-    ensures out_after { out.new ≡ sets out.old at (b ∷ []) }
-    ensures value { result ≡ at + 1 }
+fn put_text(out: &mut [u8], at: usize, text: &[u8]) -> usize
+    requires { at + length text.now ≤ length out.old }
+    ensures out_after { out.new ≡ sets out.old at text.now }
+    ensures value { result ≡ at + length text.now }
 {
-    out[at] = b;
-    at + 1
-}
-
-fn put_decimal(out: &mut [u8], at: usize, n: u64) -> usize
-    requires { at + length (decimal n) ≤ length out.old }
-    ensures out_after { out.new ≡ sets out.old at (decimal n) }
-    ensures value { result ≡ at + length (decimal n) }
-{
-    if n < 10 {
-        return put_byte(out, at, 48 + n as u8);
-    }
-    let k = put_decimal(out, at, n / 10);
-    put_byte(out, k, 48 + (n % 10) as u8)
+    let end = at + text.len();
+    out[at..end].copy_from_slice(text);
+    end
 }
 
 // A number and the byte behind it.
@@ -32,8 +20,9 @@ fn put_field(out: &mut [u8], at: usize, n: u64, end: u8) -> usize
     ensures value { result ≡ at + length (field n end) }
     ensures upper_bound { result ≤ at + 21 }
 {
-    let k = put_decimal(out, at, n);
-    put_byte(out, k, end)
+    let mut digits = itoa::Buffer::new();
+    let k = put_text(out, at, digits.format(n).as_bytes());
+    put_text(out, k, &[end])
 }
 
 // The line goes into the buffer from a place on, where 64 bytes are left there; the answer is the place behind it.
@@ -41,29 +30,13 @@ pub fn put_line(out: &mut [u8], at: usize, line: u64, refusal: u64, offset: u64)
     ensures out_after { out.new ≡ line_put out.old at line refusal offset }
     ensures value { result ≡ line_end out.old at line refusal offset }
 {
-    if at > out.len() {
-        return at;
-    }
-    if out.len() - at < 64 {
+    if at > out.len() || out.len() - at < 64 {
         return at;
     }
     let a = put_field(out, at, line, b',');
     let b = put_field(out, a, refusal, b',');
     let c = put_field(out, b, offset, b'\r');
-    put_byte(out, c, b'\n')
-}
-
-fn put_text(out: &mut [u8], at: usize, text: &[u8]) -> usize
-    requires { at + length text.now ≤ length out.old }
-    ensures out_after { out.new ≡ sets out.old at text.now }
-    ensures value { result ≡ at + length text.now }
-{
-    let mut i: usize = 0;
-    while i < text.len() {
-        out[at + i] = text[i];
-        i += 1;
-    }
-    at + i
+    put_text(out, c, b"\n")
 }
 
 // The header goes to the buffer's start, where 64 bytes are there; the answer is the place behind it.

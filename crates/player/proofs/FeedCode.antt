@@ -1,14 +1,12 @@
 -- The run over records and over a piece: one law for each return and for a turn of the loop. Assumes nothing.
-use Rattle.std.proofs.Common.{◌≡◌, ℕ, ◌+◌, ◌<◌, ◌≤◌, List, [], ◌∷◌, length, get_or, drop, sym, refl, ap, ◌∙◌, add-one, arith, drop_of_length-le, drop-cons}
+use Rattle.std.proofs.Common.{Option, None, Some, ◌≡◌, ℕ, ◌+◌, ◌<◌, ◌≤◌, List, [], ◌∷◌, length, get_or, drop, sym, refl, ap, ◌∙◌, add-one, arith, drop_of_length-le, drop-cons}
 use Rattle.box_log.specs.Answers.{line_put, line_end}
 use Rattle.box_log.specs.Cutting.{line_after, step_at, hand_out, out_of, line_of, place_of}
 use Rattle.box_log.specs.declared.entry.Entry.{Entry}
 use Rattle.box_log.specs.declared.cut.Place.{Place}
 use Rattle.box_log.specs.declared.cut.Step.{Step}
-use Rattle.box_log.specs.declared.cut.Got.{Got}
-use Rattle.box_log.specs.declared.cut.Got.TheVariants.{Nothing, Record}
 use Rattle.player.specs.PlayBytes.{scene, play_b}
-use Rattle.player.specs.FeedBytes.{run, fresh, Desk, desk, next, lined, tell_b, handed_out, play_all}
+use Rattle.player.specs.FeedBytes.{run, Desk, desk, next, lined, tell_b, handed_out, play_all}
 use Rattle.player.specs.declared.play.Played.{Played}
 use Rattle.player.specs.declared.feed.Run.{Run}
 
@@ -26,17 +24,7 @@ tell_is e d r v out x r' v' {k} q n p s =
     (line_put out d.at z x.refusal x.offset)) n
     ∙ ap (lined d out) q
 
-module _ (d : Desk) {g : Got} where
-  pub hand_none : g ≡ Nothing → d ≡ handed_out d g
-  hand_none q = ap (handed_out d) (sym q)
-
-  pub hand_one : {e : Entry} {x : Desk} → g ≡ Record e → x ≡ tell_b d e → x ≡ handed_out d g
-  hand_one q p = p ∙ ap (handed_out d) (sym q)
-
--- ---- a byte, the start, the end
-
-pub start_is : {n : ℕ} (m : ℕ) → n ≡ m → fresh n ≡ fresh m
-start_is m q = ap fresh q
+-- ---- a byte
 
 pub take-place : {s : Step} (t : Step) → s ≡ t → s.place ≡ t.place
 take-place t q = ap (λ z. z.place) q
@@ -44,16 +32,12 @@ take-place t q = ap (λ z. z.place) q
 pub take-desk : (d : Desk) {x : Desk} {s : Step} (t : Step) → s ≡ t → x ≡ handed_out d s.got → x ≡ handed_out d t.got
 take-desk d t q p = p ∙ ap (λ z. handed_out d z.got) q
 
-pub end_desk : {m : Run} (n : Run) (r v out : List ℕ) {x : Desk} {g : Got} (h : Got) → m ≡ n → g ≡ h → x ≡ handed_out (desk m r v out) g
-    → x ≡ handed_out (desk n r v out) h
-end_desk n r v out {g = g} h q p s = s ∙ ap (λ z. handed_out (desk z r v out) g) q ∙ ap (handed_out (desk n r v out)) p
-
 -- ---- a piece: the bytes that are left, fed on, give what the whole piece gives
 
-play_hand : (d : Desk) (g : Got) (es : List Entry) → play_all d (hand_out g es) ≡ play_all (handed_out d g) es
+play_hand : (d : Desk) (g : Option Entry) (es : List Entry) → play_all d (hand_out g es) ≡ play_all (handed_out d g) es
 unfolding play_all
-play_hand d Nothing es = refl
-play_hand d (Record e) es = refl
+play_hand d None es = refl
+play_hand d (Some e) es = refl
 
 pub record Feeding (piece line₀ : List ℕ) (p₀ : Place) (d₀ : Desk) (line : List ℕ) (p : Place) (d : Desk) (i : ℕ) : Type 0 where
   pub inside : i ≤ length piece
@@ -128,5 +112,3 @@ module _ {piece line₀ : List ℕ} {p₀ : Place} {d₀ : Desk} {line : List �
 pub feeding_from : {piece line₀ : List ℕ} {p₀ : Place} {m : Run} (n : Run) {r v out : List ℕ} {line : List ℕ} {p : Place} {d : Desk} {i : ℕ}
     → Feeding piece line₀ p₀ (desk m r v out) line p d i → length piece ≤ i → m ≡ n → d ≡ play_all (desk n r v out) (out_of line₀ p₀ piece)
 feeding_from {piece} {line₀} {p₀} n {r} {v} {out} f l q = feeding_desk f l ∙ ap (λ z. play_all (desk z r v out) (out_of line₀ p₀ piece)) q
-
-pub ruleset laws = (start_is, tell_is, hand_none, hand_one, take-place, take-desk, end_desk)

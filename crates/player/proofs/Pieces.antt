@@ -1,7 +1,7 @@
 -- THE OUTPUT IS `replayed` OF THE LOG, WHATEVER THE PIECES (`whole`). What a program writes that begins, feeds the pieces one after the
 -- other, writes after each what stands in the buffer, and at last the end's line, is said with the contracts' own definitions (`output`).
 -- Assumes nothing.
-use Rattle.std.specs.Prelude.{◌≡◌, ℕ, suc, ◌+◌, ◌*◌, ◌^◌, ◌<◌, ◌≤◌, List, [], ◌∷◌, ◌++◌, length, take, drop}
+use Rattle.std.specs.Prelude.{Option, None, Some, ◌≡◌, ℕ, suc, ◌+◌, ◌*◌, ◌^◌, ◌<◌, ◌≤◌, List, [], ◌∷◌, ◌++◌, length, take, drop}
 use mathlib.Core.List.{flatten, append-nil, append_assoc}
 use Rattle.std.proofs.Math.Path.{refl, ap}
 use Rattle.std.proofs.Common.{sym, ◌∙◌, add-zero, arith, length-append, take_at, le-leb}
@@ -12,8 +12,6 @@ use Rattle.box_log.specs.Cutting.{line_after, step_at, ending, hand_out, handed,
 use Rattle.box_log.proofs.CuttingLaws.{cut-whole, in_pieces}
 use Rattle.box_log.specs.declared.entry.Entry.{Entry}
 use Rattle.box_log.specs.declared.cut.Place.{Place}
-use Rattle.box_log.specs.declared.cut.Got.{Got}
-use Rattle.box_log.specs.declared.cut.Got.TheVariants.{Nothing, Record}
 use Rattle.player.specs.Replayed as r
 use Rattle.player.specs.Replayed.{Work, idle, lines_from, replayed}
 use Rattle.player.specs.PlayBytes.{Scene, play_b}
@@ -89,9 +87,9 @@ lines_append k s (e ∷ es) fs =
 
 -- ---- pieces
 
-hand_short : (g : Got) (es : List Entry) → length (hand_out g es) ≤ suc (length es)
-hand_short Nothing es = omega arith
-hand_short (Record e) es = omega arith
+hand_short : (g : Option Entry) (es : List Entry) → length (hand_out g es) ≤ suc (length es)
+hand_short None es = omega arith
+hand_short (Some e) es = omega arith
 
 -- a byte ends one record at most
 out_short : (line : List ℕ) (p : Place) (x : List ℕ) → length (out_of line p x) ≤ length x
@@ -104,11 +102,11 @@ out_short line p (b ∷ bs) =
       out_short (line_after line p b) (step_at line p b).place bs,
     )
 
-end_is : (d : Desk) (k : ℕ) (s : Work) (g : Got) → On d k s → k + 1 < 2 ^ 64 → 64 ≤ length d.out
+end_is : (d : Desk) (k : ℕ) (s : Work) (g : Option Entry) → On d k s → k + 1 < 2 ^ 64 → 64 ≤ length d.out
     → shown (handed_out (cleared d) g) ≡ lines_from (k + 1) s (hand_out g [])
 unfolding lines_from
-end_is d k s Nothing o l room = refl
-end_is d k s (Record e) o l room =
+end_is d k s None o l room = refl
+end_is d k s (Some e) o l room =
     (tell_wrote (cleared d) k s e (record { lines = o.lines; room = o.room; stands = o.stands }) l (omega (arith, room))).shows
     ∙ sym (append-nil (answer_line (k + 1) (r.line_of s e).refusal (r.line_of s e).offset))
 

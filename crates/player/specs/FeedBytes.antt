@@ -1,11 +1,9 @@
 -- THE RUN over records: the words of the arena at work, its record and buffer, the records answered, and the lines in the buffer for them,
 -- for all inputs. Which records a piece of the log hands out is said by `log`, `Cutting`. Assumes nothing.
-use Rattle.std.specs.Prelude.{ℕ, ◌+◌, ◌%◌, ◌^◌, false, List, [], ◌∷◌}
+use Rattle.std.specs.Prelude.{Option, None, Some, ℕ, ◌+◌, ◌%◌, ◌^◌, false, List, [], ◌∷◌}
 use Rattle.box_log.specs.Answers.{line_put, line_end}
 use Rattle.box_log.specs.Cutting.{at}
 use Rattle.box_log.specs.declared.entry.Entry.{Entry}
-use Rattle.box_log.specs.declared.cut.Got.{Got}
-use Rattle.box_log.specs.declared.cut.Got.TheVariants.{Nothing, Record}
 use Rattle.player.specs.PlayBytes.{Scene, play_b}
 use Rattle.player.specs.declared.feed.Run.{Run}
 use Rattle.player.specs.declared.feed.Fed.{Fed}
@@ -46,9 +44,9 @@ lined x out s =
 unfoldable pub tell_b : Desk → Entry → Desk
 tell_b d e = lined d.run d.out (play_b e d.run.words d.image d.buffer)
 
-abbrev pub handed_out : Desk → Got → Desk
-handed_out d Nothing = d
-handed_out d (Record e) = tell_b d e
+abbrev pub handed_out : Desk → Option Entry → Desk
+handed_out d None = d
+handed_out d (Some e) = tell_b d e
 
 unfoldable pub play_all : Desk → List Entry → Desk
 play_all d [] = d

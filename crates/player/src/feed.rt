@@ -5,20 +5,29 @@ ghost use Rattle.box_log.specs.Answers.{header_put, header_end};
 ghost use Rattle.player.specs.FeedBytes.{fresh, emptied, desk, tell_b, handed_out, play_all};
 
 use crate::play::play;
-use box_log::cut::{Got, Place, finish, take_byte};
+use box_log::cut::{Place, Step};
 use box_log::entry::Entry;
 use box_log::lines::{put_header, put_line};
 
 // The words of the arena at work, how many records were answered, how many bytes of lines are in the buffer.
-#[derive(Clone, Copy)]
+#[derive(Clone, Copy, PartialEq, Eq, Debug, Default)]
 pub struct Run {
     pub words: usize,
     pub lines: u64,
     pub at: usize,
 }
 
+impl Run {
+    // The buffer's lines were written: the next go to its start.
+    fn emptied(self) -> Run
+        ensures { result ≡ emptied self }
+    {
+        Run { at: 0, ..self }
+    }
+}
+
 // With it the place in the record at hand.
-#[derive(Clone, Copy)]
+#[derive(Clone, Copy, PartialEq, Eq, Debug, Default)]
 pub struct Fed {
     pub place: Place,
     pub run: Run,
@@ -31,23 +40,11 @@ pub fn start(out: &mut [u8]) -> Fed
 {
     let at = put_header(out);
     Fed {
-        place: Place { held: 0, cr: false },
+        place: Place::default(),
         run: Run {
-            words: 0,
-            lines: 0,
-            at: at,
+            at,
+            ..Run::default()
         },
-    }
-}
-
-// The buffer's lines were written: the next go to its start.
-fn emptied(run: Run) -> Run
-    ensures { result ≡ emptied run }
-{
-    Run {
-        words: run.words,
-        lines: run.lines,
-        at: 0,
     }
 }
 
@@ -57,22 +54,22 @@ pub fn tell(e: Entry, run: Run, r: &mut [u64; 72], w: &mut [u64], out: &mut [u8]
         ≡ tell_b (desk run r.old w.old out.old) e }
 {
     let x = play(e, run.words, r, w);
-    let line = std::num::wrapping_add_u64(run.lines, 1);
-    let end = put_line(out, run.at, line, x.refusal, x.offset);
+    let lines = run.lines.wrapping_add(1);
     Run {
         words: x.words,
-        lines: line,
-        at: end,
+        lines,
+        at: put_line(out, run.at, lines, x.refusal, x.offset),
     }
 }
 
-fn hand_out(g: Got, run: Run, r: &mut [u64; 72], w: &mut [u64], out: &mut [u8]) -> Run
+// The record that a byte ended, if it ended one.
+fn hand_out(got: Option<Entry>, run: Run, r: &mut [u64; 72], w: &mut [u64], out: &mut [u8]) -> Run
     ensures { desk result r.new w.new out.new
-        ≡ handed_out (desk run r.old w.old out.old) g }
+        ≡ handed_out (desk run r.old w.old out.old) got }
 {
-    match g {
-        Got::Nothing => run,
-        Got::Record(e) => tell(e, run, r, w, out),
+    match got {
+        Some(e) => tell(e, run, r, w, out),
+        None => run,
     }
 }
 
@@ -84,15 +81,10 @@ fn take(b: u8, from: Fed, line: &mut [u8], r: &mut [u64; 72], w: &mut [u64], out
         ≡ handed_out (desk from.run r.old w.old out.old)
         (step_at line.old from.place b).got }
 {
-    let p = from.place;
-    let run = from.run;
-    let s = take_byte(line, p, b);
-    let place = s.place;
-    let g = s.got;
-    let next = hand_out(g, run, r, w, out);
+    let Step { place, got } = from.place.take_byte(line, b);
     Fed {
-        place: place,
-        run: next,
+        place,
+        run: hand_out(got, from.run, r, w, out),
     }
 }
 
@@ -111,16 +103,12 @@ pub fn feed(
         ≡ play_all (desk (emptied from.run) r.old w.old out.old)
         (out_of line.old from.place piece.now) }
 {
-    let place = from.place;
-    let run = from.run;
     let mut fed = Fed {
-        place: place,
-        run: emptied(run),
+        run: from.run.emptied(),
+        ..from
     };
-    let mut i: usize = 0;
-    while i < piece.len() {
-        fed = take(piece[i], fed, line, r, w, out);
-        i += 1;
+    for b in piece {
+        fed = take(*b, fed, line, r, w, out);
     }
     fed
 }
@@ -132,8 +120,6 @@ pub fn end(from: Fed, line: &mut [u8], r: &mut [u64; 72], w: &mut [u64], out: &m
         ≡ handed_out (desk (emptied from.run) r.old w.old out.old)
         (ending line.old from.place) }
 {
-    let place = from.place;
-    let run = from.run;
-    let g = finish(line, place);
-    hand_out(g, emptied(run), r, w, out)
+    let last = from.place.finish(line);
+    hand_out(last, from.run.emptied(), r, w, out)
 }

@@ -6,35 +6,26 @@ ghost use Rattle.arena.specs.Answers.{answer_of};
 ghost use Rattle.player.specs.PlayBytes.{said, shown, is_ready, scene, call_on, set_up_of, play_b};
 
 use crate::shown::{offset_of, refusal_of};
-use arena::answers::Answer;
+use arena::answers::{Answer, Reason, Reply};
 use arena::control::image_of;
 use arena::on_image;
 use box_log::entry::Entry;
 use chunk::access::BlockOff;
 
 // How many words the arena at work has from now on, 0 for none; and what the record's line says.
-#[derive(Clone, Copy)]
+#[derive(Clone, Copy, PartialEq, Eq, Debug)]
 pub struct Played {
     pub words: usize,
     pub refusal: u64,
     pub offset: u64,
 }
 
-fn refused(words: usize, n: u64) -> Played
-    ensures { result ≡ said words n 0 }
-{
-    Played {
-        words: words,
-        refusal: n,
-        offset: 0,
-    }
-}
-
+// What the line says of a call's answer.
 fn answered(words: usize, a: Answer) -> Played
     ensures { result ≡ shown words (answer_of a) }
 {
     Played {
-        words: words,
+        words,
         refusal: refusal_of(a),
         offset: offset_of(a),
     }
@@ -44,50 +35,7 @@ fn answered(words: usize, a: Answer) -> Played
 fn ready(words: usize, room: usize) -> bool
     ensures { result ≡ is_ready words room }
 {
-    if words == 0 {
-        return false;
-    }
-    words <= room
-}
-
-fn malloc(words: usize, r: &mut [u64; 72], w: &mut [u64], bytes: u64) -> Played
-    ensures { scene result r.new w.new ≡ call_on words r.old w.old (Malloc bytes) }
-{
-    if !ready(words, w.len()) {
-        return refused(words, 2);
-    }
-    let a = on_image::malloc(r, &mut w[0..words], bytes);
-    answered(words, a)
-}
-
-fn free(words: usize, r: &mut [u64; 72], w: &mut [u64], b: u64) -> Played
-    ensures { scene result r.new w.new ≡ call_on words r.old w.old (Free b) }
-{
-    if !ready(words, w.len()) {
-        return refused(words, 2);
-    }
-    let a = on_image::free(r, &mut w[0..words], BlockOff(b));
-    answered(words, a)
-}
-
-fn realloc(words: usize, r: &mut [u64; 72], w: &mut [u64], b: u64, bytes: u64) -> Played
-    ensures { scene result r.new w.new ≡ call_on words r.old w.old (Realloc b bytes) }
-{
-    if !ready(words, w.len()) {
-        return refused(words, 2);
-    }
-    let a = on_image::realloc(r, &mut w[0..words], BlockOff(b), bytes);
-    answered(words, a)
-}
-
-fn memalign(words: usize, r: &mut [u64; 72], w: &mut [u64], alignment: u64, bytes: u64) -> Played
-    ensures { scene result r.new w.new ≡ call_on words r.old w.old (Memalign alignment bytes) }
-{
-    if !ready(words, w.len()) {
-        return refused(words, 2);
-    }
-    let a = on_image::memalign(r, &mut w[0..words], alignment, bytes);
-    answered(words, a)
+    words != 0 && words <= room
 }
 
 // A refused set-up leaves the arena at work as it is.
@@ -95,32 +43,37 @@ fn set_up(words: usize, r: &mut [u64; 72], w: &mut [u64], n: usize) -> Played
     ensures { scene result r.new w.new ≡ set_up_of words r.old w.old n }
 {
     if n > w.len() {
-        return refused(words, 1);
+        return answered(words, Answer::Refused(Reason::BadCount));
     }
-    let x = arena::setup(&mut w[0..n]);
-    let a = x.answer;
-    let c = x.control;
-    match a {
+    let Reply { answer, control } = arena::setup(&mut w[..n]);
+    match answer {
         Answer::Done => {
-            *r = image_of(c);
-            answered(n, a)
+            *r = image_of(control);
+            answered(n, answer)
         }
-        Answer::Granted(_) => answered(words, a),
-        Answer::Bytes(_) => answered(words, a),
-        Answer::Refused(_) => answered(words, a),
+        Answer::Granted(_) => answered(words, answer),
+        Answer::Bytes(_) => answered(words, answer),
+        Answer::Refused(_) => answered(words, answer),
     }
 }
 
-// A record of another form answers 9, before any set-up too.
+// A record of another form answers 9, before any set-up too. A call before any granted set-up finds no sound arena.
 pub fn play(e: Entry, words: usize, r: &mut [u64; 72], w: &mut [u64]) -> Played
     ensures { scene result r.new w.new ≡ play_b e words r.old w.old }
 {
     match e {
-        Entry::Odd => refused(words, 9),
+        Entry::Odd => Played {
+            words,
+            refusal: 9,
+            offset: 0,
+        },
         Entry::Setup(n) => set_up(words, r, w, n as usize),
-        Entry::Malloc(n) => malloc(words, r, w, n),
-        Entry::Free(b) => free(words, r, w, b),
-        Entry::Realloc(b, n) => realloc(words, r, w, b, n),
-        Entry::Memalign(a, n) => memalign(words, r, w, a, n),
+        _ if !ready(words, w.len()) => answered(words, Answer::Refused(Reason::Unsound)),
+        Entry::Malloc(n) => answered(words, on_image::malloc(r, &mut w[..words], n)),
+        Entry::Free(b) => answered(words, on_image::free(r, &mut w[..words], BlockOff(b))),
+        Entry::Realloc(b, n) => {
+            answered(words, on_image::realloc(r, &mut w[..words], BlockOff(b), n))
+        }
+        Entry::Memalign(a, n) => answered(words, on_image::memalign(r, &mut w[..words], a, n)),
     }
 }

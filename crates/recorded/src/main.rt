@@ -6,10 +6,9 @@ mod look;
 mod play;
 mod text;
 
-ghost use Rattle.std.specs.Io.{ReadsAtMost};
-
 use crate::play::{CALLS, DIFFER, GRANTS, LOOKS, NOT_READ, REFUSALS, play};
 use crate::text::{end_line, read_byte};
+use pieces::read_full;
 use std::io;
 use std::io::Read;
 
@@ -34,21 +33,6 @@ fn play_bytes(
         end_line(line, buf[i], t);
         i += 1;
     }
-}
-
-// Fills the buffer, unless the input ends before: one read may hand over fewer bytes than there are. How many bytes it holds.
-fn read_full(input: &mut impl Read, buf: &mut [u8]) -> io::Result<usize>
-    ensures { ReadsAtMost result buf.new }
-{
-    let mut done: usize = 0;
-    while done < buf.len() {
-        let n = input.read(&mut buf[done..])?;
-        if n == 0 {
-            break;
-        }
-        done += n;
-    }
-    Ok(done)
 }
 
 fn play_all(

@@ -1,5 +1,5 @@
-use Rattle.player.proofs.PlayCode.{laws}
 use Rattle.std.proofs.Common.{rules}
+use Rattle.player.proofs.PlayCode.{laws}
 use Rattle.player.proofs.play.set_up.Goals as goal
 
 pub returns-then-n-w : goal.returns-then-n-w

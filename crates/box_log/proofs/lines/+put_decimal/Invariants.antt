@@ -1,5 +1,0 @@
--- The cycle {put_decimal}: the number falls. Assumes nothing.
-use Rattle.box_log.proofs.lines.+put_decimal.Given as goal
-
-abbrev pub decreases-put_decimal : goal.decreases-put_decimal
-decreases-put_decimal l = l.n

@@ -1,0 +1,2 @@
+-- What the code leaves at each return, as laws.
+pub mod Filling
