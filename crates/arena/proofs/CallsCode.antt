@@ -1,13 +1,9 @@
 -- The calls by value: what the calls on the record's words have told, handed back as `call_a` says it. Assumes nothing.
-use mathlib.Core.Bool.{Bool, true, false}
-use mathlib.Core.List.{List}
-use mathlib.Core.Path.{◌≡◌, refl, sym, ap, ◌∙◌}
-use Prim.Native.Nat.{ℕ, zero, suc, ◌+◌, ◌-◌, ◌*◌, ◌≤◌}
-use native.Mathlib.Omega.{arith}
-use lib.ListN.{length, get_or, set}
-use Rattle.words.specs.Logic.{pick_case}
+use Rattle.std.proofs.Common.{◌≡◌, ℕ, ◌+◌, ◌-◌, ◌*◌, ◌≤◌, Bool, true, false, List, length, get_or, set, Result, Ok, Err, is_ok, refl, sym, ap, ◌∙◌, arith}
+use Rattle.std.specs.Prelude.{⊤}
+use Rattle.words.specs.Logic.{pick, pick_case}
 use Rattle.words.specs.Edition.{wide, no_link}
-use Rattle.rules.specs.Calls.{Call, Usable, Answer, done, refused, bad_count, unsound, allowed_count}
+use Rattle.rules.specs.Calls.{Call, Usable, Answer, done, refused, bad_count, allowed_count}
 use Rattle.chunk.specs.declared.access.BlockOff.{BlockOff}
 use Rattle.lend.specs.LendBytes.{lent, lent_from}
 use Rattle.holds.specs.Holds.{Control, fresh_control}
@@ -16,14 +12,12 @@ use Rattle.calls.specs.CallBytes.{Told, told, call_b}
 use Rattle.calls.specs.Record.{image, numbers_of, empty_control}
 use Rattle.calls.specs.ByValue.{ends, handed_back, heard, call_a, set_up_a, rebuild_says, rebuild_a}
 use Rattle.rebuild.specs.RebuildBytes.{Rebuilt, rebuilt, rebuild_b}
-use Rattle.arena.specs.Answers.{answer_of}
-use Rattle.arena.specs.declared.answers.Answer as A
-use Rattle.arena.specs.declared.answers.Answer.TheVariants.{Granted, Done, Bytes, Refused}
+use Rattle.arena.specs.Answers.{block_answer, done_answer}
 use Rattle.arena.specs.declared.answers.Reason.{Reason}
 use Rattle.calls.specs.Counts.{count_allowed, count_range}
 
 -- a call that was told on the words of c
-pub call_ends : (c : Control) (w : List ℕ) (k : Call) {r r' w' : List ℕ} {a b : Answer} {d : Control} → r ≡ image c → told a r' w' ≡ call_b wide r w k → b ≡ a → d ≡ handed_back a c r' → ends b d w' ≡ call_a wide c w k
+call_ends : (c : Control) (w : List ℕ) (k : Call) {r r' w' : List ℕ} {a b : Answer} {d : Control} → r ≡ image c → told a r' w' ≡ call_b wide r w k → b ≡ a → d ≡ handed_back a c r' → ends b d w' ≡ call_a wide c w k
 unfolding call_a
 call_ends c w k {r' = r'} {w' = w'} {a = a} {b = b} q t i j = ap (λ d. ends b d w') j ∙ ap (λ x. ends x (handed_back a c r') w') i ∙ ap (heard c) (t ∙ ap (λ z. call_b wide z w k) q)
 
@@ -58,34 +52,29 @@ module _ (w : List ℕ) {x : Bool} (e : x ≡ count_ok (length w)) where
   pub setup_long : x ≡ true → 16 ≤ length w
   setup_long q = (count_range (length w) (sym e ∙ q)).0
 
--- ---- handed back, by the answer
+-- ---- handed back: each result as its answer has it
 
-module _ (c : Control) (r : List ℕ) {a : A.Answer} {d : Control} where
-  pub hand_granted : {b : BlockOff} → a ≡ Granted b → d ≡ numbers_of r → d ≡ handed_back (answer_of a) c r
-  hand_granted p q = q ∙ sym (ap (λ z. handed_back (answer_of z) c r) p)
+abbrev kept : Bool → List ℕ → Control → Control
+kept b r c = pick b (numbers_of r) c
 
-  pub hand_done : a ≡ Done → d ≡ numbers_of r → d ≡ handed_back (answer_of a) c r
-  hand_done p q = q ∙ sym (ap (λ z. handed_back (answer_of z) c r) p)
+hand_block : (x : Result BlockOff Reason) (c : Control) (r : List ℕ) → kept (is_ok x) r c ≡ handed_back (block_answer x) c r
+hand_block (Ok b) c r = refl
+hand_block (Err why) c r = refl
 
-module _ (c : Control) (r : List ℕ) {a : A.Answer} where
-  pub hand_bytes : {n : ℕ} → a ≡ Bytes n → c ≡ handed_back (answer_of a) c r
-  hand_bytes p = sym (ap (λ z. handed_back (answer_of z) c r) p)
+hand_done : (x : Result ⊤ Reason) (c : Control) (r : List ℕ) → kept (is_ok x) r c ≡ handed_back (done_answer x) c r
+hand_done (Ok u) c r = refl
+hand_done (Err why) c r = refl
 
-  pub hand_refused : {y : Reason} → a ≡ Refused y → c ≡ handed_back (answer_of a) c r
-  hand_refused p = sym (ap (λ z. handed_back (answer_of z) c r) p)
+module _ (c : Control) (w : List ℕ) (k : Call) {r r' w' : List ℕ} {d : Control} where
+  pub block_ends : {x y : Result BlockOff Reason} → r ≡ image c → told (block_answer x) r' w' ≡ call_b wide r w k → y ≡ x → d ≡ kept (is_ok x) r' c
+      → ends (block_answer y) d w' ≡ call_a wide c w k
+  block_ends {x = x} q t i j = call_ends c w k q t (ap block_answer i) (j ∙ hand_block x c r')
+
+  pub done_ends : {x y : Result ⊤ Reason} → r ≡ image c → told (done_answer x) r' w' ≡ call_b wide r w k → y ≡ x → d ≡ kept (is_ok x) r' c
+      → ends (done_answer y) d w' ≡ call_a wide c w k
+  done_ends {x = x} q t i j = call_ends c w k q t (ap done_answer i) (j ∙ hand_done x c r')
 
 -- ---- the rebuild
-
-pub says_done : {n : ℕ} → n ≡ 0 → done ≡ rebuild_says n
-says_done q = sym (ap rebuild_says q)
-
-pub says-count : {n : ℕ} → n ≡ 1 → refused bad_count ≡ rebuild_says n
-says-count q = sym (ap rebuild_says q)
-
-pub says_unsound : (n : ℕ) → (n ≡ 0 → ⊥) → (n ≡ 1 → ⊥) → refused unsound ≡ rebuild_says n
-says_unsound zero a b = absurd (a refl)
-says_unsound (suc zero) a b = absurd (b refl)
-says_unsound (suc (suc n)) a b = refl
 
 pub rebuild_ends : (w : List ℕ) (start : ℕ) {n : ℕ} {i v : List ℕ} {a : Answer} {d : Control} → rebuilt n i v ≡ rebuild_b wide w start
     → a ≡ rebuild_says n → d ≡ numbers_of i → ends a d v ≡ rebuild_a wide w start
@@ -93,8 +82,6 @@ unfolding rebuild_a
 rebuild_ends w start {n} {i} {v} {a} {d} f q g =
     ap (λ x. ends x d v) q ∙ ap (λ x. ends (rebuild_says n) x v) g
     ∙ ap (λ (x : Rebuilt). ends (rebuild_says x.refusal) (numbers_of x.image) x.words) f
-
-pub ruleset rebuild-laws = (says_done, says-count, says_unsound, rebuild_ends)
 
 -- ---- lent
 
@@ -104,4 +91,4 @@ lent_of w off p q = q ∙ ap (λ z. lent wide z w off) p
 pub lent_from_lem : {r s : List ℕ} (w : List ℕ) (off : ℕ) {a : ℕ} (b : ℕ) → r ≡ s → a ≡ lent_from wide r w off * 8 + b → a ≡ lent_from wide s w off * 8 + b
 lent_from_lem w off b p q = q ∙ ap (λ z. lent_from wide z w off * 8 + b) p
 
-pub ruleset laws = (call_ends, usable_ends)
+pub ruleset laws = (block_ends, done_ends, usable_ends, rebuild_ends)

@@ -1,9 +1,9 @@
--- WHAT THE ENUMS SAY: document 01's answer, number and values for each case. Assumes nothing.
+-- WHAT THE RESULTS SAY: document 01's answer for each of the three, and its number and values. Assumes nothing.
+use Rattle.std.specs.Prelude.{ℕ, Result, Ok, Err, ⊤}
 use Rattle.rules.specs.Calls as rules
+use Rattle.chunk.specs.declared.access.BlockOff.{BlockOff}
 use Rattle.arena.specs.declared.answers.Reason.{Reason}
 use Rattle.arena.specs.declared.answers.Reason.TheVariants.{BadCount, Unsound, BadAlignment, TooMany, NotLive, NoRoom}
-use Rattle.arena.specs.declared.answers.Answer.{Answer}
-use Rattle.arena.specs.declared.answers.Answer.TheVariants.{Granted, Done, Bytes, Refused}
 
 abbrev pub reason_of : Reason → rules.Reason
 reason_of BadCount = rules.bad_count
@@ -13,8 +13,17 @@ reason_of TooMany = rules.too_many
 reason_of (NotLive b) = rules.not_live b.0
 reason_of NoRoom = rules.no_room
 
-abbrev pub answer_of : Answer → rules.Answer
-answer_of (Granted b) = rules.granted b.0
-answer_of Done = rules.done
-answer_of (Bytes n) = rules.bytes n
-answer_of (Refused why) = rules.refused (reason_of why)
+-- a block granted, or the refusal
+abbrev pub block_answer : Result BlockOff Reason → rules.Answer
+block_answer (Ok b) = rules.granted b.0
+block_answer (Err why) = rules.refused (reason_of why)
+
+-- a call that is done, or the refusal
+abbrev pub done_answer : Result ⊤ Reason → rules.Answer
+done_answer (Ok x) = rules.done
+done_answer (Err why) = rules.refused (reason_of why)
+
+-- a number of bytes, or the refusal
+abbrev pub bytes_answer : Result ℕ Reason → rules.Answer
+bytes_answer (Ok n) = rules.bytes n
+bytes_answer (Err why) = rules.refused (reason_of why)

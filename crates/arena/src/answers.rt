@@ -1,4 +1,8 @@
-// What a call answers: a grant with its offset, a "done", a number of bytes, or a refusal that carries its reason.
+// What a call answers: what it grants, or the reason of its refusal.
+ghost use Rattle.std.specs.Prelude.{◌≡◌};
+ghost use Rattle.rules.specs.Calls.{number};
+ghost use Rattle.arena.specs.Answers.{reason_of};
+
 use crate::control::Control;
 use chunk::access::BlockOff;
 
@@ -13,16 +17,25 @@ pub enum Reason {
     NoRoom,
 }
 
-#[derive(Clone, Copy)]
-pub enum Answer {
-    Granted(BlockOff),
-    Done,
-    Bytes(u64),
-    Refused(Reason),
+// Document 01's number of each row.
+impl From<Reason> for u64 {
+    ghost from_gives = { λ why n. n ≡ number (reason_of why) };
+
+    fn from(why: Reason) -> u64 {
+        match why {
+            Reason::BadCount => 1,
+            Reason::Unsound => 2,
+            Reason::BadAlignment => 3,
+            Reason::TooMany => 4,
+            Reason::NotLive(_) => 5,
+            Reason::NoRoom => 6,
+        }
+    }
 }
 
+// The answer, and the record that is handed back.
 #[derive(Clone, Copy)]
-pub struct Reply {
-    pub answer: Answer,
+pub struct Reply<T> {
+    pub answer: Result<T, Reason>,
     pub control: Control,
 }

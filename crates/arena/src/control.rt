@@ -96,7 +96,7 @@ pub fn control_with(top: u64, topsize: u64, length: u64) -> Control
         dv: ChunkOff(NONE),
         dvsize: 0,
         top: ChunkOff(top),
-        topsize: topsize,
-        length: length,
+        topsize,
+        length,
     }
 }

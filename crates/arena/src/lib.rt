@@ -5,53 +5,39 @@
 pub mod answers;
 pub mod control;
 pub mod on_image;
+pub mod refusals;
 
-ghost use Rattle.std.specs.Prelude.{◌≡◌, ◌+◌, ◌*◌};
+ghost use Rattle.std.specs.Prelude.{◌≡◌, ◌+◌, ◌*◌, is_ok};
+ghost use Rattle.words.specs.Logic.{pick};
 ghost use Rattle.words.specs.Edition.{wide};
 ghost use Rattle.rules.specs.Calls.{Malloc, Free, Realloc, Memalign, Usable};
 ghost use Rattle.lend.specs.LendBytes.{lent, lent_from};
-ghost use Rattle.calls.specs.Record.{image};
-ghost use Rattle.calls.specs.ByValue.{ends, handed_back, call_a, set_up_a, rebuild_says, rebuild_a};
+ghost use Rattle.calls.specs.Record.{image, numbers_of};
+ghost use Rattle.calls.specs.ByValue.{ends, call_a, set_up_a, rebuild_says, rebuild_a};
 ghost use Rattle.arena.specs.Record.{numbers};
-ghost use Rattle.arena.specs.Answers.{answer_of};
+ghost use Rattle.arena.specs.Answers.{block_answer, done_answer, bytes_answer};
 
-use crate::answers::{Answer, Reason, Reply};
+use crate::answers::{Reason, Reply};
 use crate::control::{Control, control_of, control_with, image_of};
 use chunk::access::{BlockOff, NONE};
 use sound::words_ok;
 
 // A refused call hands back the record that it was given.
-fn hand_back(a: Answer, r: &[u64; 72], c: Control) -> Reply
-    ensures answer { answer_of result.answer ≡ answer_of a }
-    ensures control { numbers result.control ≡ handed_back (answer_of a) (numbers c) r.now }
+fn hand_back<T>(answer: Result<T, Reason>, r: &[u64; 72], c: Control) -> Reply<T>
+    ensures answer { result.answer ≡ answer }
+    ensures control { numbers result.control ≡ pick (is_ok answer) (numbers_of r.now) (numbers c) }
 {
-    match a {
-        Answer::Granted(_) => Reply {
-            answer: a,
-            control: control_of(r),
-        },
-        Answer::Done => Reply {
-            answer: a,
-            control: control_of(r),
-        },
-        Answer::Bytes(_) => Reply {
-            answer: a,
-            control: c,
-        },
-        Answer::Refused(_) => Reply {
-            answer: a,
-            control: c,
-        },
-    }
+    let control = if answer.is_ok() { control_of(r) } else { c };
+    Reply { answer, control }
 }
 
 // Two words are written: the top's head and the foot word.
-pub fn setup(w: &mut [u64]) -> Reply
-    ensures { ends (answer_of result.answer) (numbers result.control) w.new ≡ set_up_a wide w.old }
+pub fn setup(w: &mut [u64]) -> Reply<()>
+    ensures { ends (done_answer result.answer) (numbers result.control) w.new ≡ set_up_a wide w.old }
 {
     if !words_ok(w.len()) {
         return Reply {
-            answer: Answer::Refused(Reason::BadCount),
+            answer: Err(Reason::BadCount),
             control: control_with(NONE, 0, 0),
         };
     }
@@ -60,37 +46,37 @@ pub fn setup(w: &mut [u64]) -> Reply
     w[1] = length - 79;
     w[n - 9] = 80;
     Reply {
-        answer: Answer::Done,
+        answer: Ok(()),
         control: control_with(0, length - 80, length),
     }
 }
 
-pub fn malloc(c: Control, w: &mut [u64], bytes: u64) -> Reply
-    ensures { ends (answer_of result.answer) (numbers result.control) w.new ≡ call_a wide (numbers c) w.old (Malloc bytes) }
+pub fn malloc(c: Control, w: &mut [u64], bytes: u64) -> Reply<BlockOff>
+    ensures { ends (block_answer result.answer) (numbers result.control) w.new ≡ call_a wide (numbers c) w.old (Malloc bytes) }
 {
     let mut r = image_of(c);
     let a = on_image::malloc(&mut r, w, bytes);
     hand_back(a, &r, c)
 }
 
-pub fn free(c: Control, w: &mut [u64], b: BlockOff) -> Reply
-    ensures { ends (answer_of result.answer) (numbers result.control) w.new ≡ call_a wide (numbers c) w.old (Free b.0) }
+pub fn free(c: Control, w: &mut [u64], b: BlockOff) -> Reply<()>
+    ensures { ends (done_answer result.answer) (numbers result.control) w.new ≡ call_a wide (numbers c) w.old (Free b.0) }
 {
     let mut r = image_of(c);
     let a = on_image::free(&mut r, w, b);
     hand_back(a, &r, c)
 }
 
-pub fn realloc(c: Control, w: &mut [u64], b: BlockOff, bytes: u64) -> Reply
-    ensures { ends (answer_of result.answer) (numbers result.control) w.new ≡ call_a wide (numbers c) w.old (Realloc b.0 bytes) }
+pub fn realloc(c: Control, w: &mut [u64], b: BlockOff, bytes: u64) -> Reply<BlockOff>
+    ensures { ends (block_answer result.answer) (numbers result.control) w.new ≡ call_a wide (numbers c) w.old (Realloc b.0 bytes) }
 {
     let mut r = image_of(c);
     let a = on_image::realloc(&mut r, w, b, bytes);
     hand_back(a, &r, c)
 }
 
-pub fn memalign(c: Control, w: &mut [u64], alignment: u64, bytes: u64) -> Reply
-    ensures { ends (answer_of result.answer) (numbers result.control) w.new ≡ call_a wide (numbers c) w.old (Memalign alignment bytes) }
+pub fn memalign(c: Control, w: &mut [u64], alignment: u64, bytes: u64) -> Reply<BlockOff>
+    ensures { ends (block_answer result.answer) (numbers result.control) w.new ≡ call_a wide (numbers c) w.old (Memalign alignment bytes) }
 {
     let mut r = image_of(c);
     let a = on_image::memalign(&mut r, w, alignment, bytes);
@@ -98,8 +84,8 @@ pub fn memalign(c: Control, w: &mut [u64], alignment: u64, bytes: u64) -> Reply
 }
 
 // The bytes of a live block that are its owner's. Neither record nor arena is changed.
-pub fn usable(c: Control, w: &[u64], b: BlockOff) -> Answer
-    ensures { ends (answer_of result) (numbers c) w.now ≡ call_a wide (numbers c) w.now (Usable b.0) }
+pub fn usable(c: Control, w: &[u64], b: BlockOff) -> Result<u64, Reason>
+    ensures { ends (bytes_answer result) (numbers c) w.now ≡ call_a wide (numbers c) w.now (Usable b.0) }
 {
     let r = image_of(c);
     on_image::usable(&r, w, b)
@@ -115,27 +101,24 @@ pub fn lend<'a>(c: Control, w: &'a mut [u64], b: BlockOff) -> &'a mut [u64]
     lend::lend(&r, w, b)
 }
 
-// A refusal's number as an answer.
-fn rebuild_says(n: u64) -> Answer
-    ensures { answer_of result ≡ rebuild_says n }
+// The rebuild's refusal as a reason.
+fn rebuild_says(n: u64) -> Result<(), Reason>
+    ensures { done_answer result ≡ rebuild_says n }
 {
-    if n == 0 {
-        return Answer::Done;
+    match n {
+        0 => Ok(()),
+        1 => Err(Reason::BadCount),
+        _ => Err(Reason::Unsound),
     }
-    if n == 1 {
-        return Answer::Refused(Reason::BadCount);
-    }
-    Answer::Refused(Reason::Unsound)
 }
 
 // The record is lost: a new one, from the arena's words and its start alone.
-pub fn rebuild(w: &mut [u64], start: u64) -> Reply
-    ensures { ends (answer_of result.answer) (numbers result.control) w.new ≡ rebuild_a wide w.old start }
+pub fn rebuild(w: &mut [u64], start: u64) -> Reply<()>
+    ensures { ends (done_answer result.answer) (numbers result.control) w.new ≡ rebuild_a wide w.old start }
 {
     let t = rebuild::rebuild(w, start);
-    let r = t.image;
     Reply {
         answer: rebuild_says(t.refusal),
-        control: control_of(&r),
+        control: control_of(&t.image),
     }
 }

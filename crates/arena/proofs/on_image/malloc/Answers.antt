@@ -1,15 +1,21 @@
-use Rattle.arena.proofs.OnImageCode.{tests, call_count, call_unsound, malloc_many, malloc-told}
-use borrow.Author.Rules.{rules}
+use Rattle.std.proofs.Common.{sym, ◌∙◌}
+use Rattle.std.proofs.lemmas.Result.{err_from_is_err_and}
+use Rattle.words.specs.Edition.{wide}
+use Rattle.malloc.specs.MallocBytes.{malloc_b}
+use Rattle.arena.proofs.OnImageCode.{stop, go, granting, malloc_rows}
 use Rattle.arena.proofs.on_image.malloc.Goals as goal
 
-pub returns-then-not-words_ok : goal.returns-then-not-words_ok
-returns-then-not-words_ok c = search (call_count, tests, rules)
+pub returns-in_err-checked : goal.returns-in_err-checked
+returns-in_err-checked c =
+    let p = err_from_is_err_and c.from_residual.result c.from_residual.ensures.1 in rw (p.1, p.2)
+    (stop _ _ _ (malloc_rows c.args.r.now c.args.w.now c.args.bytes) c.in_err-checked.ensures)
 
-pub returns-then-not-sound : goal.returns-then-not-sound
-returns-then-not-sound c = call_unsound _ _ _ c.words_ok.ensures c.if-not-words_ok.false c.sound.ensures c.if-not-sound.true
-
-pub returns-then-too_many : goal.returns-then-too_many
-returns-then-too_many c = search (malloc_many, tests, rules)
+pub returns-in_err-few : goal.returns-in_err-few
+returns-in_err-few c =
+    let p = err_from_is_err_and c.from_residual-in_err-few.result c.from_residual-in_err-few.ensures.1 in rw (p.1, p.2)
+    (stop _ _ _ (go _ _ _ (malloc_rows c.args.r.now c.args.w.now c.args.bytes) c.in_ok-checked.ensures) c.in_err-few.ensures)
 
 pub returns : goal.returns
-returns c = search (malloc-told, tests, rules)
+returns c =
+    granting _ _ _ c.in_ok-checked.ensures c.in_ok-few.ensures (malloc_b wide c.args.r.now c.args.w.now) c.request2size.ensures c.malloc_chunk-p.ensures c.granted.ensures
+    ∙ sym (go _ _ _ (go _ _ _ (malloc_rows c.args.r.now c.args.w.now c.args.bytes) c.in_ok-checked.ensures) c.in_ok-few.ensures)

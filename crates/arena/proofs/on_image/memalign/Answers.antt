@@ -1,18 +1,26 @@
-use Rattle.arena.proofs.OnImageCode.{tests, call_count, call_unsound, memalign_odd, memalign_many, memalign-told}
-use borrow.Author.Rules.{rules}
+use Rattle.std.proofs.Common.{sym, ◌∙◌}
+use Rattle.std.proofs.lemmas.Result.{err_from_is_err_and}
+use Rattle.words.specs.Edition.{wide}
+use Rattle.memalign.specs.MemalignBytes.{memalign_b}
+use Rattle.arena.proofs.OnImageCode.{stop, go, granting, memalign_rows}
 use Rattle.arena.proofs.on_image.memalign.Goals as goal
 
-pub returns-then-not-words_ok : goal.returns-then-not-words_ok
-returns-then-not-words_ok c = search (call_count, tests, rules)
+pub returns-in_err-checked : goal.returns-in_err-checked
+returns-in_err-checked c =
+    let p = err_from_is_err_and c.from_residual.result c.from_residual.ensures.1 in rw (p.1, p.2)
+    (stop _ _ _ (memalign_rows c.args.r.now c.args.w.now c.args.alignment c.args.bytes) c.in_err-checked.ensures)
 
-pub returns-then-not-sound : goal.returns-then-not-sound
-returns-then-not-sound c = call_unsound _ _ _ c.words_ok.ensures c.if-not-words_ok.false c.sound.ensures c.if-not-sound.true
+pub returns-in_err-aligned : goal.returns-in_err-aligned
+returns-in_err-aligned c =
+    let p = err_from_is_err_and c.from_residual-in_err-aligned.result c.from_residual-in_err-aligned.ensures.1 in rw (p.1, p.2)
+    (stop _ _ _ (go _ _ _ (memalign_rows c.args.r.now c.args.w.now c.args.alignment c.args.bytes) c.in_ok-checked.ensures) c.in_err-aligned.ensures)
 
-pub returns-then-not-alignment_ok : goal.returns-then-not-alignment_ok
-returns-then-not-alignment_ok c = memalign_odd _ _ c.words_ok.ensures c.if-not-words_ok.false c.sound.ensures c.if-not-sound.false _ _ c.alignment_ok.ensures c.if-not-alignment_ok.true
-
-pub returns-then-too_many : goal.returns-then-too_many
-returns-then-too_many c = search (memalign_many, tests, rules)
+pub returns-in_err-few : goal.returns-in_err-few
+returns-in_err-few c =
+    let p = err_from_is_err_and c.from_residual-in_err-few.result c.from_residual-in_err-few.ensures.1 in rw (p.1, p.2)
+    (stop _ _ _ (go _ _ _ (go _ _ _ (memalign_rows c.args.r.now c.args.w.now c.args.alignment c.args.bytes) c.in_ok-checked.ensures) c.in_ok-aligned.ensures) c.in_err-few.ensures)
 
 pub returns : goal.returns
-returns c = search (memalign-told, tests, rules)
+returns c =
+    granting _ _ _ c.in_ok-checked.ensures c.in_ok-few.ensures (memalign_b wide c.args.r.now c.args.w.now c.args.alignment) c.request2size.ensures c.memalign_chunk-p.ensures c.granted.ensures
+    ∙ sym (go _ _ _ (go _ _ _ (go _ _ _ (memalign_rows c.args.r.now c.args.w.now c.args.alignment c.args.bytes) c.in_ok-checked.ensures) c.in_ok-aligned.ensures) c.in_ok-few.ensures)

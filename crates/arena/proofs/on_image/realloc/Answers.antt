@@ -1,18 +1,28 @@
-use Rattle.arena.proofs.OnImageCode.{tests, call_count, call_unsound, realloc_many, realloc_dead, realloc-told}
-use borrow.Author.Rules.{rules}
+use Rattle.std.proofs.Common.{sym, ap, ◌∙◌}
+use Rattle.std.proofs.lemmas.Result.{err_from_is_err_and}
+use Rattle.words.specs.Edition.{wide}
+use Rattle.realloc.specs.ReallocBytes.{realloc_b}
+use Rattle.calls.specs.CallBytes.{chunk_at}
+use Rattle.arena.proofs.OnImageCode.{stop, go, granting, realloc_rows}
 use Rattle.arena.proofs.on_image.realloc.Goals as goal
 
-pub returns-then-not-words_ok : goal.returns-then-not-words_ok
-returns-then-not-words_ok c = search (call_count, tests, rules)
+pub returns-in_err-checked : goal.returns-in_err-checked
+returns-in_err-checked c =
+    let p = err_from_is_err_and c.from_residual.result c.from_residual.ensures.1 in rw (p.1, p.2)
+    (stop _ _ _ (realloc_rows c.args.r.now c.args.w.now c.args.b c.args.bytes) c.in_err-checked.ensures)
 
-pub returns-then-not-sound : goal.returns-then-not-sound
-returns-then-not-sound c = call_unsound _ _ _ c.words_ok.ensures c.if-not-words_ok.false c.sound.ensures c.if-not-sound.true
+pub returns-in_err-few : goal.returns-in_err-few
+returns-in_err-few c =
+    let p = err_from_is_err_and c.from_residual-in_err-few.result c.from_residual-in_err-few.ensures.1 in rw (p.1, p.2)
+    (stop _ _ _ (go _ _ _ (realloc_rows c.args.r.now c.args.w.now c.args.b c.args.bytes) c.in_ok-checked.ensures) c.in_err-few.ensures)
 
-pub returns-then-too_many : goal.returns-then-too_many
-returns-then-too_many c = search (realloc_many, tests, rules)
-
-pub returns-then-not-live_block : goal.returns-then-not-live_block
-returns-then-not-live_block c = realloc_dead _ _ c.words_ok.ensures c.if-not-words_ok.false c.sound.ensures c.if-not-sound.false _ _ c.too_many.ensures c.if-too_many.false c.live_block.ensures c.if-not-live_block.true
+pub returns-in_err-live : goal.returns-in_err-live
+returns-in_err-live c =
+    let p = err_from_is_err_and c.from_residual-in_err-live.result c.from_residual-in_err-live.ensures.1 in rw (p.1, p.2)
+    (stop _ _ _ (go _ _ _ (go _ _ _ (realloc_rows c.args.r.now c.args.w.now c.args.b c.args.bytes) c.in_ok-checked.ensures) c.in_ok-few.ensures) c.in_err-live.ensures)
 
 pub returns : goal.returns
-returns c = search (realloc-told, tests, rules)
+returns c =
+    granting _ _ _ c.in_ok-checked.ensures c.in_ok-few.ensures (realloc_b wide c.args.r.now c.args.w.now (chunk_at wide c.args.b.0)) c.request2size.ensures
+    (c.realloc_chunk-p.ensures ∙ ap (λ z. realloc_b wide c.args.r.now c.args.w.now z c.request2size.result) c.from_mem.ensures) c.granted.ensures
+    ∙ sym (go _ _ _ (go _ _ _ (go _ _ _ (realloc_rows c.args.r.now c.args.w.now c.args.b c.args.bytes) c.in_ok-checked.ensures) c.in_ok-few.ensures) c.in_ok-live.ensures)

@@ -1,15 +1,21 @@
-use Rattle.arena.proofs.OnImageCode.{tests, call_count, call_unsound, usable_dead, usable_told}
-use borrow.Author.Rules.{rules}
+use Rattle.std.proofs.Common.{sym, ap, ◌∙◌}
+use Rattle.std.proofs.lemmas.Result.{err_from_is_err_and}
+use Rattle.rules.specs.Calls.{bytes}
+use Rattle.calls.specs.CallBytes.{told}
+use Rattle.arena.proofs.OnImageCode.{stop, go, usable_rows}
 use Rattle.arena.proofs.on_image.usable.Goals as goal
 
-pub returns-then-not-words_ok : goal.returns-then-not-words_ok
-returns-then-not-words_ok c = search (call_count, tests, rules)
+pub returns-in_err-checked : goal.returns-in_err-checked
+returns-in_err-checked c =
+    let p = err_from_is_err_and c.from_residual.result c.from_residual.ensures.1 in rw (p.1, p.2)
+    (stop _ _ _ (usable_rows c.args.r.now c.args.w.now c.args.b) c.in_err-checked.ensures)
 
-pub returns-then-not-sound : goal.returns-then-not-sound
-returns-then-not-sound c = search (call_unsound, tests, rules)
-
-pub returns-then-not-live_block : goal.returns-then-not-live_block
-returns-then-not-live_block c = usable_dead _ _ c.words_ok.ensures c.if-not-words_ok.false c.sound.ensures c.if-not-sound.false _ c.live_block.ensures c.if-not-live_block.true
+pub returns-in_err-live : goal.returns-in_err-live
+returns-in_err-live c =
+    let p = err_from_is_err_and c.from_residual-in_err-live.result c.from_residual-in_err-live.ensures.1 in rw (p.1, p.2)
+    (stop _ _ _ (go _ _ _ (usable_rows c.args.r.now c.args.w.now c.args.b) c.in_ok-checked.ensures) c.in_err-live.ensures)
 
 pub returns : goal.returns
-returns c = search (usable_told, tests, rules)
+returns c =
+    ap (λ n. told (bytes n) c.args.r.now c.args.w.now) c.usable_size.ensures
+    ∙ sym (go _ _ _ (go _ _ _ (usable_rows c.args.r.now c.args.w.now c.args.b) c.in_ok-checked.ensures) c.in_ok-live.ensures)
