@@ -4,64 +4,97 @@ use mathlib.Core.List.{List}
 use mathlib.Core.Path.{◌≡◌, refl, sym, ap, ◌∙◌}
 use Prim.Native.Nat.{ℕ, ◌+◌, ◌≤◌, ◌<◌}
 use lib.Dec.{eqb}
-use lib.ListN.{get_or, set}
+use lib.ListN.{set}
 use borrow.Author.Tests.{eq-eqb, ne_eqb, lt-ltb, le-ltb}
+use Rattle.std.specs.Prelude.{Option, Some, None}
 use Rattle.words.specs.Edition.{wide}
 use Rattle.chunk.specs.Bytes.{wrap}
-use Rattle.recorded.specs.Lines.{line_read, line_odd, begun, counted, ended, end_line}
+use Rattle.recorded.specs.declared.tally.Tally.{Tally}
+use Rattle.recorded.specs.declared.text.Kind.{Kind}
+use Rattle.recorded.specs.declared.text.Kind.TheVariants.{Empty, Comment, Numbers, Odd}
+use Rattle.recorded.specs.declared.text.Line.{Line}
+use Rattle.recorded.specs.Lines.{line_read, numbers_read, line_odd, begun, emptied, Ended, ended, end_line}
+use Rattle.recorded.specs.Tallies.{noted, one_differs, counted, one_is_odd}
 
-module _ (l : List ℕ) (k : ℕ) where
-  pub begin_in : k < 8 → set (set l 8 k) k 0 ≡ begun l k
-  unfolding begun
-  begin_in q = sym (rw (lt-ltb k 8 q) refl)
+-- ---- the tally
 
-  pub begin_out : 8 ≤ k → set l 8 k ≡ begun l k
-  unfolding begun
-  begin_out q = sym (rw (le-ltb k 8 q) refl)
+module _ (t : Tally) (b : Bool) where
+  pub note_same : b ≡ true → t ≡ noted b t
+  unfolding noted
+  note_same q = sym (rw q refl)
 
-module _ (l : List ℕ) (b : ℕ) where
-  pub read_inside : (b ≡ 10 → ⊥) → false ≡ line_read l b
-  unfolding line_read
-  read_inside n = sym (rw (ne_eqb b 10 n) refl)
+  pub note_other : {n : ℕ} → b ≡ false → n ≡ wrap wide (t.differ + 1) → record { calls = t.calls; grants = t.grants; refusals = t.refusals; looks = t.looks; not_read = t.not_read; differ = n } ≡ noted b t
+  unfolding noted
+  note_other q z = rw (z, q) refl
 
-  pub read_other : b ≡ 10 → (get_or l 9 0 ≡ 2 → ⊥) → false ≡ line_read l b
-  unfolding line_read
-  read_other q n = sym (rw (eq-eqb b 10 q, ne_eqb (get_or l 9 0) 2 n) refl)
-
-  pub read_numbers : b ≡ 10 → get_or l 9 0 ≡ 2 → eqb (get_or l 8 0) 7 ≡ line_read l b
-  unfolding line_read
-  read_numbers q n = sym (rw (eq-eqb b 10 q, eq-eqb (get_or l 9 0) 2 n) refl)
-
-module _ (l : List ℕ) where
-  pub odd_byte : get_or l 9 0 ≡ 3 → true ≡ line_odd l
-  unfolding line_odd
-  odd_byte q = sym (rw (eq-eqb (get_or l 9 0) 3 q) refl)
-
-  module _ (n : get_or l 9 0 ≡ 3 → ⊥) where
-    pub odd_none : (get_or l 9 0 ≡ 2 → ⊥) → false ≡ line_odd l
-    unfolding line_odd
-    odd_none m = sym (rw (ne_eqb (get_or l 9 0) 3 n, ne_eqb (get_or l 9 0) 2 m) refl)
-
-    pub odd_count : get_or l 9 0 ≡ 2 → not (eqb (get_or l 8 0) 7) ≡ line_odd l
-    unfolding line_odd
-    odd_count m = sym (rw (ne_eqb (get_or l 9 0) 3 n, eq-eqb (get_or l 9 0) 2 m) refl)
-
-module _ (t : List ℕ) (odd : Bool) where
-  pub count_odd : {n : ℕ} → odd ≡ true → n ≡ wrap wide (get_or t 7 0 + 1) → set t 7 n ≡ counted odd t
+  pub count_odd : {n : ℕ} → b ≡ true → n ≡ wrap wide (t.not_read + 1) → record { calls = t.calls; grants = t.grants; refusals = t.refusals; looks = t.looks; not_read = n; differ = t.differ } ≡ counted b t
   unfolding counted
-  count_odd q z = ap (set t 7) z ∙ sym (rw q refl)
+  count_odd q z = rw (z, q) refl
 
-  pub count_not : odd ≡ false → t ≡ counted odd t
+  pub count_not : b ≡ false → t ≡ counted b t
   unfolding counted
   count_not q = sym (rw q refl)
 
-module _ (l : List ℕ) (b : ℕ) (t : List ℕ) where
+-- ---- the line
+
+module _ (l : Line) (k : ℕ) where
+  pub begin_in : k < 8 → record { numbers = set l.numbers k 0; at = k; kind = l.kind } ≡ begun l k
+  unfolding begun
+  begin_in q = sym (rw (lt-ltb k 8 q) refl)
+
+  pub begin_out : 8 ≤ k → record { numbers = l.numbers; at = k; kind = l.kind } ≡ begun l k
+  unfolding begun
+  begin_out q = sym (rw (le-ltb k 8 q) refl)
+
+module _ (l : Line) (b : ℕ) where
+  pub read_inside : (b ≡ 10 → ⊥) → None ≡ numbers_read l b
+  unfolding numbers_read line_read
+  read_inside n = sym (rw (ne_eqb b 10 n) refl)
+
+  pub read_eight : b ≡ 10 → l.kind ≡ Numbers → l.at ≡ 7 → Some l.numbers ≡ numbers_read l b
+  unfolding numbers_read line_read
+  read_eight q n e = sym (rw (eq-eqb b 10 q, n, eq-eqb l.at 7 e) refl)
+
+  pub read_fewer : b ≡ 10 → l.kind ≡ Numbers → (l.at ≡ 7 → ⊥) → None ≡ numbers_read l b
+  unfolding numbers_read line_read
+  read_fewer q n e = sym (rw (eq-eqb b 10 q, n, ne_eqb l.at 7 e) refl)
+
+  pub read_empty : b ≡ 10 → l.kind ≡ Empty → None ≡ numbers_read l b
+  unfolding numbers_read line_read
+  read_empty q n = sym (rw (eq-eqb b 10 q, n) refl)
+
+  pub read_comment : b ≡ 10 → l.kind ≡ Comment → None ≡ numbers_read l b
+  unfolding numbers_read line_read
+  read_comment q n = sym (rw (eq-eqb b 10 q, n) refl)
+
+  pub read_odd : b ≡ 10 → l.kind ≡ Odd → None ≡ numbers_read l b
+  unfolding numbers_read line_read
+  read_odd q n = sym (rw (eq-eqb b 10 q, n) refl)
+
+module _ (l : Line) where
+  pub odd_byte : l.kind ≡ Odd → true ≡ line_odd l
+  unfolding line_odd
+  odd_byte q = sym (rw q refl)
+
+  pub odd_count : l.kind ≡ Numbers → not (eqb l.at 7) ≡ line_odd l
+  unfolding line_odd
+  odd_count q = sym (rw q refl)
+
+  pub odd_empty : l.kind ≡ Empty → false ≡ line_odd l
+  unfolding line_odd
+  odd_empty q = sym (rw q refl)
+
+  pub odd_comment : l.kind ≡ Comment → false ≡ line_odd l
+  unfolding line_odd
+  odd_comment q = sym (rw q refl)
+
+module _ (l : Line) (b : ℕ) (t : Tally) where
   pub end_not : (b ≡ 10 → ⊥) → ended l t ≡ end_line l b t
   unfolding end_line
   end_not n = sym (rw (ne_eqb b 10 n) refl)
 
-  pub end_yes : {odd : Bool} {t₁ l₁ : List ℕ} → b ≡ 10 → odd ≡ line_odd l → t₁ ≡ counted odd t → l₁ ≡ begun (set l 9 0) 0 → ended l₁ t₁ ≡ end_line l b t
+  pub end_yes : {odd : Bool} {t₁ : Tally} {l₁ : Line} → b ≡ 10 → odd ≡ line_odd l → t₁ ≡ counted odd t → l₁ ≡ begun (emptied l) 0 → ended l₁ t₁ ≡ end_line l b t
   unfolding end_line
-  end_yes {t₁ = t₁} q o x y = ap (λ z. ended z t₁) y ∙ ap (ended (begun (set l 9 0) 0)) (x ∙ ap (λ z. counted z t) o) ∙ sym (rw (eq-eqb b 10 q) refl)
+  end_yes {t₁ = t₁} q o x y = ap (λ z. ended z t₁) y ∙ ap (ended (begun (emptied l) 0)) (x ∙ ap (λ z. counted z t) o) ∙ sym (rw (eq-eqb b 10 q) refl)
 
-pub ruleset laws = (begin_in, begin_out, read_inside, read_other, read_numbers, odd_byte, odd_none, odd_count, count_odd, count_not, end_not, end_yes)
+pub ruleset laws = (note_same, note_other, count_odd, count_not, begin_in, begin_out, read_inside, read_eight, read_fewer, read_empty, read_comment, read_odd, odd_byte, odd_count, odd_empty, odd_comment, end_not, end_yes)

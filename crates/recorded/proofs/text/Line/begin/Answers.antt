@@ -1,6 +1,6 @@
 use Rattle.recorded.proofs.LinesCode.{laws}
 use borrow.Author.Rules.{rules}
-use Rattle.recorded.proofs.text.begin.Goals as goal
+use Rattle.recorded.proofs.text.Line.begin.Goals as goal
 
 pub returns-then-k-lt8 : goal.returns-then-k-lt8
 returns-then-k-lt8 c = search (laws, rules)

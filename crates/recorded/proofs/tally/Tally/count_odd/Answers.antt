@@ -1,6 +1,6 @@
 use Rattle.recorded.proofs.LinesCode.{laws}
 use borrow.Author.Rules.{rules}
-use Rattle.recorded.proofs.text.count.Goals as goal
+use Rattle.recorded.proofs.tally.Tally.count_odd.Goals as goal
 
 pub returns-then-odd : goal.returns-then-odd
 returns-then-odd c = search (laws, rules)
