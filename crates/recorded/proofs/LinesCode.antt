@@ -1,20 +1,18 @@
 -- Lines: one law for each return, what the tests and the callees have told put together as the definition says it. Assumes nothing.
 use mathlib.Core.Bool.{Bool, true, false, not}
-use mathlib.Core.List.{List}
 use mathlib.Core.Path.{◌≡◌, refl, sym, ap, ◌∙◌}
 use Prim.Native.Nat.{ℕ, ◌+◌, ◌≤◌, ◌<◌}
 use lib.Dec.{eqb}
 use lib.ListN.{set}
 use borrow.Author.Tests.{eq-eqb, ne_eqb, lt-ltb, le-ltb}
-use Rattle.std.specs.Prelude.{Option, Some, None}
+use Rattle.std.specs.Prelude.{Some, None}
 use Rattle.words.specs.Edition.{wide}
 use Rattle.chunk.specs.Bytes.{wrap}
 use Rattle.recorded.specs.declared.tally.Tally.{Tally}
-use Rattle.recorded.specs.declared.text.Kind.{Kind}
 use Rattle.recorded.specs.declared.text.Kind.TheVariants.{Empty, Comment, Numbers, Odd}
 use Rattle.recorded.specs.declared.text.Line.{Line}
-use Rattle.recorded.specs.Lines.{line_read, numbers_read, line_odd, begun, emptied, Ended, ended, end_line}
-use Rattle.recorded.specs.Tallies.{noted, one_differs, counted, one_is_odd}
+use Rattle.recorded.specs.Lines.{line_read, numbers_read, line_odd, begun, emptied, ended, end_line}
+use Rattle.recorded.specs.Tallies.{noted, counted}
 
 -- ---- the tally
 

@@ -5,11 +5,13 @@ use mathlib.Core.List.{List}
 use mathlib.Core.Path.{◌≡◌, refl, sym, ap, ◌∙◌}
 use Prim.Native.Nat.{ℕ, zero, suc, ◌+◌, ◌-◌, ◌*◌, ◌/◌, ◌%◌, ◌≤◌, ◌<◌}
 use native.Mathlib.Omega.{arith}
+use lib.Dec.{eqb}
 use lib.ListN.{get_or}
 use borrow.Author.Tests.{eq-eqb, ne_eqb, lt-ltb, le-ltb, not-true, not-false}
 use Rattle.words.specs.Edition.{wide}
 use Rattle.chunk.specs.Bytes.{wrap, word, size_b, cinuse_b}
-use Rattle.recorded.specs.Sums.{walk_turns, after, chunks_from, chunks_below, add_to, add_words, add_links, add_chunk, add_top, add_owned, heap_from, heap_sum, owned_from, owned_sum}
+use Rattle.words.specs.Logic.{pick, by}
+use Rattle.recorded.specs.Sums.{walk_turns, top_at, after, walked, walk_from, walk, chunks_from, chunks_below, add_to, add_words, add_links, add_chunk, add_top, add_owned, heap_from, heap_sum, owned_from, owned_sum}
 
 -- ---- one number, some words
 
@@ -89,115 +91,82 @@ module _ (w : List ℕ) (c n s : ℕ) {u : Bool} (i : u ≡ cinuse_b wide w c) w
   unfolding add_owned
   owned_free q = sym (rw (sym i ∙ q) refl)
 
--- ---- the three walks: what is left of the walk from here is the walk
+-- ---- a walk: what is left of it from here is the walk
 
-pub record Counts (r w : List ℕ) (c n left : ℕ) : Type 0 where
-  pub same : chunks_from r w left c n ≡ chunks_below r w
+pub record Walks (h : ℕ → ℕ → ℕ) (r w : List ℕ) (c n left : ℕ) : Type 0 where
+  pub same : walk_from h r w left c n ≡ walk h r w
 
-pub record Sums (r w : List ℕ) (c s left : ℕ) : Type 0 where
-  pub same : heap_from r w left c s ≡ heap_sum r w
+module _ (h : ℕ → ℕ → ℕ) (r w : List ℕ) where
+  pub walk_start : Walks h r w 0 0 walk_turns
+  unfolding walk
+  walk_start = record { same = refl }
 
-pub record Owns (r w : List ℕ) (c s left : ℕ) : Type 0 where
-  pub same : owned_from r w left c s ≡ owned_sum r w
+  at_top : (k c n : ℕ) → c ≡ get_or r 4 0 → walk_from h r w k c n ≡ walked c n
+  unfolding walk_from
+  at_top zero c n q = refl
+  at_top (suc k) c n q = rw (eq-eqb c (get_or r 4 0) q) refl
+
+  at_end : (k c n : ℕ) → k ≤ 0 → walk_from h r w k c n ≡ walked c n
+  unfolding walk_from
+  at_end zero c n l = refl
+  at_end (suc k) c n l = absurd (omega arith)
+
+  further : (k c n : ℕ) → 0 < k → (c ≡ get_or r 4 0 → ⊥) → walk_from h r w k c n ≡ walk_from h r w (k - 1) (after w c) (h n c)
+  unfolding walk_from
+  further zero c n l q = absurd (omega arith)
+  further (suc k) c n l q = rw (ne_eqb c (get_or r 4 0) q) (ap (λ x. walk_from h r w x (after w c) (h n c)) (let z : k ≡ suc k - 1 = omega arith in z))
+
+  module _ {c n left : ℕ} (v : Walks h r w c n left) where
+    pub walk_top : c ≡ get_or r 4 0 → walked c n ≡ walk h r w
+    walk_top q = sym (at_top left c n q) ∙ v.same
+
+    pub walk_end : left ≤ 0 → walked c n ≡ walk h r w
+    walk_end l = sym (at_end left c n l) ∙ v.same
+
+    pub walk_turn : {m p x : ℕ} → 0 < left → (c ≡ get_or r 4 0 → ⊥) → x ≡ h n c → m ≡ size_b wide w c → p ≡ wrap wide (c + m) → Walks h r w p x (left - 1)
+    walk_turn {x = x} l q z e o =
+        record {
+          same = ap (λ y. walk_from h r w (left - 1) y x) (o ∙ ap (λ y. wrap wide (c + y)) e) ∙ ap (walk_from h r w (left - 1) (after w c)) z
+              ∙ sym (further left c n l q) ∙ v.same;
+        }
+
+-- ---- the three numbers by such a walk
 
 module _ (r w : List ℕ) where
-  pub counts_start : Counts r w 0 0 walk_turns
-  unfolding chunks_below
-  counts_start = record { same = refl }
+  count_by : (k c n : ℕ) → (walk_from (λ m d. wrap wide (m + 1)) r w k c n).number ≡ chunks_from r w k c n
+  unfolding walk_from chunks_from
+  count_by zero c n = refl
+  count_by (suc k) c n =
+      by (λ b. (pick b (walked c n) (walk_from (λ m d. wrap wide (m + 1)) r w k (after w c) (wrap wide (n + 1)))).number ≡ pick b n (chunks_from r w k (after w c) (wrap wide (n + 1))))
+      (eqb c (top_at r)) (λ p. refl) (λ p. count_by k (after w c) (wrap wide (n + 1)))
 
-  pub sums_start : Sums r w 0 0 walk_turns
-  unfolding heap_sum
-  sums_start = record { same = refl }
+  pub count_walked : {end n : ℕ} → walked end n ≡ walk (λ m d. wrap wide (m + 1)) r w → n ≡ chunks_below r w
+  unfolding walk chunks_below
+  count_walked q = ap (λ z. z.number) q ∙ count_by walk_turns 0 0
 
-  pub owns_start : Owns r w 0 0 walk_turns
-  unfolding owned_sum
-  owns_start = record { same = refl }
+  heap_by : (k c s : ℕ) → add_top r w (walk_from (λ m d. add_chunk r w d (size_b wide w d) m) r w k c s).end (walk_from (λ m d. add_chunk r w d (size_b wide w d) m) r w k c s).number ≡ heap_from r w k c s
+  unfolding walk_from heap_from
+  heap_by zero c s = refl
+  heap_by (suc k) c s =
+      by (λ b. add_top r w (pick b (walked c s) (walk_from (λ m d. add_chunk r w d (size_b wide w d) m) r w k (after w c) (add_chunk r w c (size_b wide w c) s))).end
+      (pick b (walked c s) (walk_from (λ m d. add_chunk r w d (size_b wide w d) m) r w k (after w c) (add_chunk r w c (size_b wide w c) s))).number
+      ≡ pick b (add_top r w c s) (heap_from r w k (after w c) (add_chunk r w c (size_b wide w c) s)))
+      (eqb c (top_at r)) (λ p. refl) (λ p. heap_by k (after w c) (add_chunk r w c (size_b wide w c) s))
 
-  count_top : (k c n : ℕ) → c ≡ get_or r 4 0 → chunks_from r w k c n ≡ n
-  unfolding chunks_from
-  count_top zero c n q = refl
-  count_top (suc k) c n q = rw (eq-eqb c (get_or r 4 0) q) refl
+  pub heap_walked : {end n x : ℕ} → walked end n ≡ walk (λ m d. add_chunk r w d (size_b wide w d) m) r w → x ≡ add_top r w end n → x ≡ heap_sum r w
+  unfolding walk heap_sum
+  heap_walked q e = e ∙ ap (λ z. add_top r w z.end z.number) q ∙ heap_by walk_turns 0 0
 
-  count_end : (k c n : ℕ) → k ≤ 0 → chunks_from r w k c n ≡ n
-  unfolding chunks_from
-  count_end zero c n l = refl
-  count_end (suc k) c n l = absurd (omega arith)
+  owned_by : (k c s : ℕ) → (walk_from (λ m d. add_owned w d (size_b wide w d) m) r w k c s).number ≡ owned_from r w k c s
+  unfolding walk_from owned_from
+  owned_by zero c s = refl
+  owned_by (suc k) c s =
+      by (λ b. (pick b (walked c s) (walk_from (λ m d. add_owned w d (size_b wide w d) m) r w k (after w c) (add_owned w c (size_b wide w c) s))).number
+      ≡ pick b s (owned_from r w k (after w c) (add_owned w c (size_b wide w c) s)))
+      (eqb c (top_at r)) (λ p. refl) (λ p. owned_by k (after w c) (add_owned w c (size_b wide w c) s))
 
-  count_on : (k c n : ℕ) → 0 < k → (c ≡ get_or r 4 0 → ⊥) → chunks_from r w k c n ≡ chunks_from r w (k - 1) (after w c) (wrap wide (n + 1))
-  unfolding chunks_from
-  count_on zero c n l q = absurd (omega arith)
-  count_on (suc k) c n l q = rw (ne_eqb c (get_or r 4 0) q) (ap (λ x. chunks_from r w x (after w c) (wrap wide (n + 1))) (let z : k ≡ suc k - 1 = omega arith in z))
+  pub owned_walked : {end n : ℕ} → walked end n ≡ walk (λ m d. add_owned w d (size_b wide w d) m) r w → n ≡ owned_sum r w
+  unfolding walk owned_sum
+  owned_walked q = ap (λ z. z.number) q ∙ owned_by walk_turns 0 0
 
-  sum_top : (k c s : ℕ) → c ≡ get_or r 4 0 → heap_from r w k c s ≡ add_top r w c s
-  unfolding heap_from
-  sum_top zero c s q = refl
-  sum_top (suc k) c s q = rw (eq-eqb c (get_or r 4 0) q) refl
-
-  sum_end : (k c s : ℕ) → k ≤ 0 → heap_from r w k c s ≡ add_top r w c s
-  unfolding heap_from
-  sum_end zero c s l = refl
-  sum_end (suc k) c s l = absurd (omega arith)
-
-  sum_on : (k c s : ℕ) → 0 < k → (c ≡ get_or r 4 0 → ⊥) → heap_from r w k c s ≡ heap_from r w (k - 1) (after w c) (add_chunk r w c (size_b wide w c) s)
-  unfolding heap_from
-  sum_on zero c s l q = absurd (omega arith)
-  sum_on (suc k) c s l q = rw (ne_eqb c (get_or r 4 0) q) (ap (λ x. heap_from r w x (after w c) (add_chunk r w c (size_b wide w c) s)) (let z : k ≡ suc k - 1 = omega arith in z))
-
-  own_top : (k c s : ℕ) → c ≡ get_or r 4 0 → owned_from r w k c s ≡ s
-  unfolding owned_from
-  own_top zero c s q = refl
-  own_top (suc k) c s q = rw (eq-eqb c (get_or r 4 0) q) refl
-
-  own_end : (k c s : ℕ) → k ≤ 0 → owned_from r w k c s ≡ s
-  unfolding owned_from
-  own_end zero c s l = refl
-  own_end (suc k) c s l = absurd (omega arith)
-
-  own_on : (k c s : ℕ) → 0 < k → (c ≡ get_or r 4 0 → ⊥) → owned_from r w k c s ≡ owned_from r w (k - 1) (after w c) (add_owned w c (size_b wide w c) s)
-  unfolding owned_from
-  own_on zero c s l q = absurd (omega arith)
-  own_on (suc k) c s l q = rw (ne_eqb c (get_or r 4 0) q) (ap (λ x. owned_from r w x (after w c) (add_owned w c (size_b wide w c) s)) (let z : k ≡ suc k - 1 = omega arith in z))
-
-  module _ {c n left : ℕ} (v : Counts r w c n left) where
-    pub counts_top : c ≡ get_or r 4 0 → n ≡ chunks_below r w
-    counts_top q = sym (count_top left c n q) ∙ v.same
-
-    pub counts_end : left ≤ 0 → n ≡ chunks_below r w
-    counts_end l = sym (count_end left c n l) ∙ v.same
-
-    pub counts_turn : {m p x : ℕ} → 0 < left → (c ≡ get_or r 4 0 → ⊥) → m ≡ size_b wide w c → p ≡ wrap wide (c + m) → x ≡ wrap wide (n + 1) → Counts r w p x (left - 1)
-    counts_turn {x = x} l q e o z =
-        record {
-          same = ap (λ y. chunks_from r w (left - 1) y x) (o ∙ ap (λ y. wrap wide (c + y)) e) ∙ ap (chunks_from r w (left - 1) (after w c)) z
-              ∙ sym (count_on left c n l q) ∙ v.same;
-        }
-
-  module _ {c s left : ℕ} (v : Sums r w c s left) where
-    pub sums_top : {x : ℕ} → c ≡ get_or r 4 0 → x ≡ add_top r w c s → x ≡ heap_sum r w
-    sums_top q e = e ∙ sym (sum_top left c s q) ∙ v.same
-
-    pub sums_end : {x : ℕ} → left ≤ 0 → x ≡ add_top r w c s → x ≡ heap_sum r w
-    sums_end l e = e ∙ sym (sum_end left c s l) ∙ v.same
-
-    pub sums_turn : {n p x : ℕ} → 0 < left → (c ≡ get_or r 4 0 → ⊥) → n ≡ size_b wide w c → x ≡ add_chunk r w c n s → p ≡ wrap wide (c + n) → Sums r w p x (left - 1)
-    sums_turn {x = x} l q e z o =
-        record {
-          same = ap (λ y. heap_from r w (left - 1) y x) (o ∙ ap (λ y. wrap wide (c + y)) e)
-              ∙ ap (heap_from r w (left - 1) (after w c)) (z ∙ ap (λ y. add_chunk r w c y s) e) ∙ sym (sum_on left c s l q) ∙ v.same;
-        }
-
-  module _ {c s left : ℕ} (v : Owns r w c s left) where
-    pub owns_top : c ≡ get_or r 4 0 → s ≡ owned_sum r w
-    owns_top q = sym (own_top left c s q) ∙ v.same
-
-    pub owns_end : left ≤ 0 → s ≡ owned_sum r w
-    owns_end l = sym (own_end left c s l) ∙ v.same
-
-    pub owns_turn : {n p x : ℕ} → 0 < left → (c ≡ get_or r 4 0 → ⊥) → n ≡ size_b wide w c → x ≡ add_owned w c n s → p ≡ wrap wide (c + n) → Owns r w p x (left - 1)
-    owns_turn {x = x} l q e z o =
-        record {
-          same = ap (λ y. owned_from r w (left - 1) y x) (o ∙ ap (λ y. wrap wide (c + y)) e)
-              ∙ ap (owned_from r w (left - 1) (after w c)) (z ∙ ap (λ y. add_owned w c y s) e) ∙ sym (own_on left c s l q) ∙ v.same;
-        }
-
-pub ruleset laws = (not-true, not-false, add-one, words_start, words_turn, words_done, links-spare, links_small, links_large, chunk_used, chunk_free, top_sum, owned_used, owned_free, counts_start, counts_top, counts_end, counts_turn, sums_start, sums_top, sums_end, sums_turn, owns_start, owns_top, owns_end, owns_turn)
+pub ruleset laws = (not-true, not-false, add-one, words_start, words_turn, words_done, links-spare, links_small, links_large, chunk_used, chunk_free, top_sum, owned_used, owned_free, walk_start, walk_top, walk_end, walk_turn, count_walked, heap_walked, owned_walked)

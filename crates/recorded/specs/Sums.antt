@@ -1,8 +1,9 @@
 -- A look at the heap, in the code's own numbers and for all inputs: r is the record's image, w the arena's words. Places and sizes are bytes, and
 -- their sums wrap; a walk takes at most 4096 chunks. Assumes nothing.
-use Rattle.std.specs.Prelude.{List, ℕ, zero, suc, ◌+◌, ◌-◌, ◌*◌, ◌/◌, ◌%◌, eqb, ltb, get_or}
+use Rattle.std.specs.Prelude.{◌≡◌, List, ℕ, zero, suc, ◌+◌, ◌-◌, ◌*◌, ◌/◌, ◌%◌, eqb, ltb, get_or}
 use Rattle.words.specs.Logic.{pick}
 use Rattle.words.specs.Edition.{wide}
+use Rattle.chunk.specs.declared.access.ChunkOff.{ChunkOff}
 use Rattle.chunk.specs.Bytes.{wrap, word, size_b, cinuse_b}
 
 -- the bound of every walk
@@ -22,6 +23,28 @@ top_bytes r = get_or r 5 0
 -- the chunk after the one at c
 abbrev pub after : List ℕ → ℕ → ℕ
 after w c = wrap wide (c + size_b wide w c)
+
+-- ---- a walk over the chunks below the top
+
+-- where it ends, and the number that it has made
+pub record Walked : Type 0 where
+  pub end : ℕ
+  pub number : ℕ
+
+abbrev pub walked : ℕ → ℕ → Walked
+walked end number = record { end = end; number = number }
+
+-- h makes the next number of the number n so far and of the chunk at c; k turns left
+unfoldable pub walk_from : (ℕ → ℕ → ℕ) → List ℕ → List ℕ → ℕ → ℕ → ℕ → Walked
+walk_from h r w zero c n = walked c n
+walk_from h r w (suc k) c n = pick (eqb c (top_at r)) (walked c n) (walk_from h r w k (after w c) (h n c))
+
+unfoldable pub walk : (ℕ → ℕ → ℕ) → List ℕ → List ℕ → Walked
+walk h r w = walk_from h r w walk_turns 0 0
+
+-- what may come out of a call at a number and a chunk is what h makes of them
+abbrev pub Makes : (ℕ → ChunkOff → ℕ → Type 0) → (ℕ → ℕ → ℕ) → Type 0
+Makes Gives h = (n : ℕ) (c : ChunkOff) (x : ℕ) → Gives n c x → x ≡ h n c.0
 
 -- ---- how many chunks lie below the top: n so far, k turns left at c
 

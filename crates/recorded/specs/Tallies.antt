@@ -1,5 +1,5 @@
 -- What a replay counts: each count is that of the tally, wrapping. Assumes nothing.
-use Rattle.std.specs.Prelude.{Bool, ℕ, ◌+◌}
+use Rattle.std.specs.Prelude.{Bool, ◌+◌}
 use Rattle.words.specs.Logic.{pick}
 use Rattle.words.specs.Edition.{wide}
 use Rattle.chunk.specs.Bytes.{wrap}

@@ -1,6 +1,6 @@
 // A look at the heap: how many chunks lie below the top, and two sums, over heads, feet and links, and over the owners' words.
 ghost use Rattle.std.specs.Prelude.{◌≡◌, ◌-◌};
-ghost use Rattle.recorded.specs.Sums.{chunks_below, add_to, add_words, add_links, add_chunk, add_top, add_owned, heap_sum, owned_sum};
+ghost use Rattle.recorded.specs.Sums.{Makes, walked, walk, chunks_below, add_to, add_words, add_links, add_chunk, add_top, add_owned, heap_sum, owned_sum};
 
 use chunk::access::{ChunkOff, get, plus_offset, sum};
 use chunk::heads::{cinuse, size};
@@ -8,6 +8,24 @@ use chunk::image::{DV, TOP, TOPSIZE};
 
 // The bound of every walk.
 const TURNS: u32 = 4096;
+
+// Over the chunks below the top, in address order: `each` makes of the number so far and of a chunk the next number. Where the walk ends, and
+// the number.
+fn walk<F: Fn(u64, ChunkOff) -> u64>(r: &[u64; 72], w: &[u64], each: F) -> (ChunkOff, u64)
+    requires { F.IsAlwaysCallable each }
+    ensures { (h : _) → Makes (F.post each) h → walked result.0.0 result.1 ≡ walk h r.now w.now }
+{
+    let mut c = ChunkOff(0);
+    let mut n: u64 = 0;
+    for _ in 0..TURNS {
+        if c.0 == r[TOP] {
+            return (c, n);
+        }
+        n = each(n, c);
+        c = plus_offset(c, size(w, c));
+    }
+    (c, n)
+}
 
 fn add(s: u64, x: u64) -> u64
     ensures { result ≡ add_to s x }
@@ -48,46 +66,11 @@ fn add_chunk(r: &[u64; 72], w: &[u64], c: ChunkOff, n: u64, s: u64) -> u64
     add(links, get(w, plus_offset(c, n), 0))
 }
 
-pub fn chunks_below(r: &[u64; 72], w: &[u64]) -> u64
-    ensures { result ≡ chunks_below r.now w.now }
-{
-    let mut c = ChunkOff(0);
-    let mut n: u64 = 0;
-    let mut left = TURNS;
-    while left > 0 {
-        if c.0 == r[TOP] {
-            return n;
-        }
-        c = plus_offset(c, size(w, c));
-        n = sum(n, 1);
-        left -= 1;
-    }
-    n
-}
-
 fn add_top(r: &[u64; 72], w: &[u64], c: ChunkOff, s: u64) -> u64
     ensures { result ≡ add_top r.now w.now c.0 s }
 {
     let top = add(s, get(w, c, 1));
     add(top, get(w, plus_offset(c, r[TOPSIZE]), 1))
-}
-
-pub fn heap_sum(r: &[u64; 72], w: &[u64]) -> u64
-    ensures { result ≡ heap_sum r.now w.now }
-{
-    let mut c = ChunkOff(0);
-    let mut s: u64 = 0;
-    let mut left = TURNS;
-    while left > 0 {
-        if c.0 == r[TOP] {
-            return add_top(r, w, c, s);
-        }
-        let n = size(w, c);
-        s = add_chunk(r, w, c, n, s);
-        c = plus_offset(c, n);
-        left -= 1;
-    }
-    add_top(r, w, c, s)
 }
 
 fn add_owned(w: &[u64], c: ChunkOff, n: u64, s: u64) -> u64
@@ -99,20 +82,23 @@ fn add_owned(w: &[u64], c: ChunkOff, n: u64, s: u64) -> u64
     s
 }
 
+pub fn chunks_below(r: &[u64; 72], w: &[u64]) -> u64
+    ensures { result ≡ chunks_below r.now w.now }
+{
+    let (_, n) = walk(r, w, |n, _| sum(n, 1));
+    n
+}
+
+pub fn heap_sum(r: &[u64; 72], w: &[u64]) -> u64
+    ensures { result ≡ heap_sum r.now w.now }
+{
+    let (end, s) = walk(r, w, |s, c| add_chunk(r, w, c, size(w, c), s));
+    add_top(r, w, end, s)
+}
+
 pub fn owned_sum(r: &[u64; 72], w: &[u64]) -> u64
     ensures { result ≡ owned_sum r.now w.now }
 {
-    let mut c = ChunkOff(0);
-    let mut s: u64 = 0;
-    let mut left = TURNS;
-    while left > 0 {
-        if c.0 == r[TOP] {
-            return s;
-        }
-        let n = size(w, c);
-        s = add_owned(w, c, n, s);
-        c = plus_offset(c, n);
-        left -= 1;
-    }
+    let (_, s) = walk(r, w, |s, c| add_owned(w, c, size(w, c), s));
     s
 }
