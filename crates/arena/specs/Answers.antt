@@ -27,3 +27,8 @@ done_answer (Err why) = rules.refused (reason_of why)
 abbrev pub bytes_answer : Result ℕ Reason → rules.Answer
 bytes_answer (Ok n) = rules.bytes n
 bytes_answer (Err why) = rules.refused (reason_of why)
+
+-- document 01's number of any of the three, 0 where nothing is refused
+abbrev pub number_in : {T : Type 0} → Result T Reason → ℕ
+number_in (Ok x) = 0
+number_in (Err why) = rules.number (reason_of why)

@@ -1,7 +1,7 @@
 // What a call answers: what it grants, or the reason of its refusal.
 ghost use Rattle.std.specs.Prelude.{◌≡◌};
 ghost use Rattle.rules.specs.Calls.{number};
-ghost use Rattle.arena.specs.Answers.{reason_of};
+ghost use Rattle.arena.specs.Answers.{reason_of, number_in};
 
 use crate::control::Control;
 use chunk::access::BlockOff;
@@ -30,6 +30,16 @@ impl From<Reason> for u64 {
             Reason::NotLive(_) => 5,
             Reason::NoRoom => 6,
         }
+    }
+}
+
+// Document 01's number of an answer, 0 where nothing is refused.
+pub fn refusal_of<T>(answer: &Result<T, Reason>) -> u64
+    ensures { result ≡ number_in answer.now }
+{
+    match answer {
+        Ok(_) => 0,
+        Err(why) => u64::from(*why),
     }
 }
 

@@ -1,29 +1,14 @@
-use Rattle.batch.proofs.BatchCode.{run_asks, laws}
-use borrow.Author.Rules.{rules}
+use Rattle.std.proofs.Common.{◌∙◌}
+use Rattle.batch.specs.Heap.{state}
+use Rattle.batch.proofs.BatchCode.{left_turn, left_end}
 use Rattle.batch.proofs.all.Goals as goal
 
-pub loop-i-init : goal.loop-i-init
-loop-i-init c = search (laws, rules)
-
-pub step-requires : goal.step-requires
-step-requires c =
-    let k = run_asks _ _ _ _ _ _ _ c.loop-i.invariant c.loop-i-test.true in
-    record { count = k.0; calls_room = k.1.0; answers_room = k.1.1 }
-
-pub overflow_add-i : goal.overflow_add-i
-overflow_add-i c = search (laws, rules)
-
-pub loop-i-smaller : goal.loop-i-smaller
-loop-i-smaller c = search (laws, rules)
-
 pub loop-i-preserved : goal.loop-i-preserved
-loop-i-preserved c = search (laws, rules)
+loop-i-preserved c = (
+  (c.step.ensures.loan.0 ∙ c.loop-i.invariant.0.0, c.step.ensures.loan.1 ∙ c.loop-i.invariant.0.1),
+  left_turn _ (state c.loop-i.heap) c.args.calls.now _ c.loop-i.answers c.args.n c.loop-i.i c.loop-i.invariant.1 c.loop-i-test.true c.step.ensures.step,
+)
 
-pub shape_of-w : goal.shape_of-w
-shape_of-w c = search (laws, rules)
-
-pub shape_of-answers : goal.shape_of-answers
-shape_of-answers c = search (laws, rules)
-
-pub returns : goal.returns
-returns c = search (laws, rules)
+pub returns-clause-runs : goal.returns-clause-runs
+returns-clause-runs c =
+    left_end _ (state c.loop-i.heap) c.args.calls.now _ c.loop-i.answers c.args.n c.loop-i.i c.loop-i.invariant.1 c.loop-i-test.false

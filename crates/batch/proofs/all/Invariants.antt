@@ -1,10 +1,7 @@
-use Prim.Native.Nat.{◌-◌}
-use Rattle.batch.specs.BatchBytes.{kept}
-use Rattle.batch.proofs.BatchCode.{Running}
+use Rattle.batch.specs.Heap.{state, SameLoan}
+use Rattle.batch.proofs.BatchCode.{Left}
 use Rattle.batch.proofs.all.Given as goal
 
 abbrev pub invariant-loop-i : goal.invariant-loop-i
-invariant-loop-i l = Running (kept l.initial.r l.initial.w l.initial.m) l.calls l.initial.answers l.n (kept l.r l.w l.m) l.answers l.i
-
-abbrev pub decreases-loop-i : goal.decreases-loop-i
-decreases-loop-i l = l.n - l.i
+invariant-loop-i l =
+    SameLoan l.initial.heap l.heap × Left (state l.initial.heap) l.calls l.initial.answers l.n (state l.heap) l.answers l.i

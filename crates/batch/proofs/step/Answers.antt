@@ -1,11 +1,7 @@
-use native.Mathlib.Omega.{arith}
-use lib.ListN.{length-set}
-use Rattle.batch.proofs.BatchCode.{laws}
-use borrow.Author.Rules.{rules}
+use Rattle.batch.proofs.BatchCode.{step_told}
 use Rattle.batch.proofs.step.Goals as goal
 
-pub bounds-answers-i-2 : goal.bounds-answers-i-2
-bounds-answers-i-2 c = simp length-set (omega arith)
-
-pub returns : goal.returns
-returns c = search (laws, rules)
+pub returns-clause-step : goal.returns-clause-step
+returns-clause-step c =
+    step_told _ c.args.calls.now c.args.answers.now c.args.i c.line-line.ensures.call c.words_of-number.ensures.number
+    c.words_of-number.ensures.offset

@@ -2,7 +2,8 @@ use Rattle.std.proofs.Common.{sym, ◌∙◌}
 use Rattle.std.proofs.lemmas.Result.{err_from_is_err_and}
 use Rattle.words.specs.Edition.{wide}
 use Rattle.memalign.specs.MemalignBytes.{memalign_b}
-use Rattle.arena.proofs.OnImageCode.{stop, go, granting, memalign_rows}
+use Rattle.arena.specs.RefusalLaws.{stop, go, counted, granting}
+use Rattle.arena.proofs.OnImageCode.{memalign_rows}
 use Rattle.arena.proofs.on_image.memalign.Goals as goal
 
 pub returns-in_err-checked : goal.returns-in_err-checked
@@ -22,5 +23,5 @@ returns-in_err-few c =
 
 pub returns : goal.returns
 returns c =
-    granting _ _ _ c.in_ok-checked.ensures c.in_ok-few.ensures (memalign_b wide c.args.r.now c.args.w.now c.args.alignment) c.request2size.ensures c.memalign_chunk-p.ensures c.granted.ensures
+    granting _ _ (counted _ _ c.in_ok-checked.ensures) c.in_ok-few.ensures (memalign_b wide c.args.r.now c.args.w.now c.args.alignment) c.request2size.ensures c.memalign_chunk-p.ensures c.granted.ensures
     ∙ sym (go _ _ _ (go _ _ _ (go _ _ _ (memalign_rows c.args.r.now c.args.w.now c.args.alignment c.args.bytes) c.in_ok-checked.ensures) c.in_ok-aligned.ensures) c.in_ok-few.ensures)

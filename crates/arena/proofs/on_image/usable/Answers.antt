@@ -2,7 +2,8 @@ use Rattle.std.proofs.Common.{sym, ap, ◌∙◌}
 use Rattle.std.proofs.lemmas.Result.{err_from_is_err_and}
 use Rattle.rules.specs.Calls.{bytes}
 use Rattle.calls.specs.CallBytes.{told}
-use Rattle.arena.proofs.OnImageCode.{stop, go, usable_rows}
+use Rattle.arena.specs.RefusalLaws.{stop, go}
+use Rattle.arena.proofs.OnImageCode.{usable_rows}
 use Rattle.arena.proofs.on_image.usable.Goals as goal
 
 pub returns-in_err-checked : goal.returns-in_err-checked
