@@ -1,4 +1,6 @@
 // What a replay counts.
+#![tactic(auto, using(crate::proofs::LinesCode::laws))]
+
 ghost use Rattle.std.specs.Prelude.{◌≡◌};
 ghost use Rattle.recorded.specs.Tallies.{noted, counted};
 

@@ -1,4 +1,6 @@
 // Lines of eight decimal numbers, a byte at a time, one space between two. A line that has a # says nothing, nor does an empty one.
+#![tactic(auto, using(crate::proofs::LinesCode::laws))]
+
 ghost use Rattle.std.specs.Prelude.{◌≡◌};
 ghost use Rattle.recorded.specs.Lines.{numbers_read, line_odd, begun, ended, end_line};
 
