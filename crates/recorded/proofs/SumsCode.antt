@@ -13,11 +13,7 @@ use Rattle.chunk.specs.Bytes.{wrap, word, size_b, cinuse_b}
 use Rattle.words.specs.Logic.{pick, by}
 use Rattle.recorded.specs.Sums.{walk_turns, top_at, after, walked, walk_from, walk, chunks_from, chunks_below, add_to, add_words, add_links, add_chunk, add_top, add_owned, heap_from, heap_sum, owned_from, owned_sum}
 
--- ---- one number, some words
-
-pub add-one : (s x : ℕ) → (s % 1000003 * 31 + x % 1000003) % 1000003 ≡ add_to s x
-unfolding add_to
-add-one s x = refl
+-- ---- some words
 
 -- the words from k to last on the sum so far are those from first to last on s
 pub record Adds (w : List ℕ) (c first last s all k : ℕ) : Type 0 where
@@ -47,49 +43,6 @@ module _ (w : List ℕ) (c : ℕ) where
 
     pub words_done : last ≤ k → all ≡ add_words w c (last - first) first s
     words_done l = sym (words_end (last - k) k all (omega arith)) ∙ v.same
-
--- ---- a chunk, the top
-
-module _ (r w : List ℕ) (c n s : ℕ) where
-  pub links-spare : c ≡ get_or r 2 0 → s ≡ add_links r w c n s
-  unfolding add_links
-  links-spare q = sym (rw (eq-eqb c (get_or r 2 0) q) refl)
-
-  module _ (q : c ≡ get_or r 2 0 → ⊥) {x : ℕ} where
-    pub links_small : n < 256 → x ≡ add_words w c 2 2 s → x ≡ add_links r w c n s
-    unfolding add_links
-    links_small l e = e ∙ sym (rw (ne_eqb c (get_or r 2 0) q, lt-ltb n 256 l) refl)
-
-    pub links_large : 256 ≤ n → x ≡ add_words w c 6 2 s → x ≡ add_links r w c n s
-    unfolding add_links
-    links_large l e = e ∙ sym (rw (ne_eqb c (get_or r 2 0) q, le-ltb n 256 l) refl)
-
-  module _ {h head : ℕ} {u : Bool} (e : h ≡ word wide w c 1) (a : head ≡ add_to s h) (i : u ≡ cinuse_b wide w c) where
-    headed : head ≡ add_to s (word wide w c 1)
-    headed = a ∙ ap (add_to s) e
-
-    pub chunk_used : u ≡ true → head ≡ add_chunk r w c n s
-    unfolding add_chunk
-    chunk_used q = headed ∙ sym (rw (sym i ∙ q) refl)
-
-    pub chunk_free : {l p f x : ℕ} → u ≡ false → l ≡ add_links r w c n head → p ≡ wrap wide (c + n) → f ≡ word wide w p 0 → x ≡ add_to l f → x ≡ add_chunk r w c n s
-    unfolding add_chunk
-    chunk_free {l} q b o g z =
-        z ∙ ap (add_to l) (g ∙ ap (λ v. word wide w v 0) o) ∙ ap (λ v. add_to v (word wide w (wrap wide (c + n)) 0)) (b ∙ ap (add_links r w c n) headed)
-        ∙ sym (rw (sym i ∙ q) refl)
-
-pub top_sum : (r w : List ℕ) (c s : ℕ) {h a p f x : ℕ} → h ≡ word wide w c 1 → a ≡ add_to s h → p ≡ wrap wide (c + get_or r 5 0) → f ≡ word wide w p 1 → x ≡ add_to a f → x ≡ add_top r w c s
-unfolding add_top
-top_sum r w c s {a = a} e b o g z = z ∙ ap (add_to a) (g ∙ ap (λ v. word wide w v 1) o) ∙ ap (λ v. add_to v (word wide w (wrap wide (c + get_or r 5 0)) 1)) (b ∙ ap (add_to s) e)
-
-module _ (w : List ℕ) (c n s : ℕ) {u : Bool} (i : u ≡ cinuse_b wide w c) where
-  pub owned_used : {x : ℕ} → u ≡ true → x ≡ add_words w c (n / 8 + 1 - 2) 2 s → x ≡ add_owned w c n s
-  unfolding add_owned
-  owned_used q e = e ∙ sym (rw (sym i ∙ q) refl)
-
-  pub owned_free : u ≡ false → s ≡ add_owned w c n s
-  unfolding add_owned
-  owned_free q = sym (rw (sym i ∙ q) refl)
 
 -- ---- a walk: what is left of it from here is the walk
 
@@ -169,4 +122,4 @@ module _ (r w : List ℕ) where
   unfolding walk owned_sum
   owned_walked q = ap (λ z. z.number) q ∙ owned_by walk_turns 0 0
 
-pub ruleset laws = (not-true, not-false, add-one, words_start, words_turn, words_done, links-spare, links_small, links_large, chunk_used, chunk_free, top_sum, owned_used, owned_free, walk_start, walk_top, walk_end, walk_turn, count_walked, heap_walked, owned_walked)
+pub ruleset laws = (words_start, words_turn, words_done, walk_start, walk_top, walk_end, walk_turn, count_walked, heap_walked, owned_walked)

@@ -1,5 +1,5 @@
 // What a replay counts.
-#![tactic(auto, using(crate::proofs::LinesCode::laws))]
+#![tactic(auto, unfolding(crate::specs::Tallies::noted, crate::specs::Tallies::counted))]
 
 ghost use Rattle.std.specs.Prelude.{◌≡◌};
 ghost use Rattle.recorded.specs.Tallies.{noted, counted};
