@@ -21,19 +21,19 @@ has_odd_byte Numbers = false
 has_odd_byte Odd = true
 
 -- the byte ends a line of eight numbers
-unfoldable pub line_read : Line → ℕ → Bool
+abbrev pub line_read : Line → ℕ → Bool
 line_read l b = eqb b 10 && has_numbers l.kind && eqb l.at 7
 
 -- the line's numbers, where the byte ends a line of eight
-unfoldable pub numbers_read : Line → ℕ → Option (List ℕ)
+abbrev pub numbers_read : Line → ℕ → Option (List ℕ)
 numbers_read l b = pick (line_read l b) (Some l.numbers) None
 
 -- the line is neither eight numbers nor a comment nor empty
-unfoldable pub line_odd : Line → Bool
+abbrev pub line_odd : Line → Bool
 line_odd l = has_odd_byte l.kind || has_numbers l.kind && not (eqb l.at 7)
 
 -- number k is being read, and is 0 so far
-unfoldable pub begun : Line → ℕ → Line
+abbrev pub begun : Line → ℕ → Line
 begun l k = record { numbers = pick (ltb k 8) (set l.numbers k 0) l.numbers; at = k; kind = l.kind }
 
 -- the line has said nothing so far
@@ -49,5 +49,5 @@ pub record Ended : Type 0 where
 abbrev pub ended : Line → Tally → Ended
 ended l t = record { line = l; tally = t }
 
-unfoldable pub end_line : Line → ℕ → Tally → Ended
+abbrev pub end_line : Line → ℕ → Tally → Ended
 end_line l b t = pick (eqb b 10) (ended (begun (emptied l) 0) (counted (line_odd l) t)) (ended l t)

@@ -58,7 +58,7 @@ chunks_below r w = chunks_from r w walk_turns 0 0
 -- ---- sums
 
 -- the sum s with one number more
-unfoldable pub add_to : ℕ → ℕ → ℕ
+abbrev pub add_to : ℕ → ℕ → ℕ
 add_to s x = (s % 1000003 * 31 + x % 1000003) % 1000003
 
 -- with n words of the chunk at c, from word k on
@@ -67,21 +67,21 @@ add_words w c zero k s = s
 add_words w c (suc n) k s = add_words w c n (k + 1) (add_to s (word wide w c (k % 65536)))
 
 -- with the links of a free chunk of n bytes: the spare chunk has none, a small one two, a large one six
-unfoldable pub add_links : List ℕ → List ℕ → ℕ → ℕ → ℕ → ℕ
+abbrev pub add_links : List ℕ → List ℕ → ℕ → ℕ → ℕ → ℕ
 add_links r w c n s = pick (eqb c (spare_at r)) s (pick (ltb n 256) (add_words w c 2 2 s) (add_words w c 6 2 s))
 
 -- with a chunk of n bytes: its head, and, where it is free, its links and its foot
-unfoldable pub add_chunk : List ℕ → List ℕ → ℕ → ℕ → ℕ → ℕ
+abbrev pub add_chunk : List ℕ → List ℕ → ℕ → ℕ → ℕ → ℕ
 add_chunk r w c n s =
     let head = add_to s (word wide w c 1) in
     pick (cinuse_b wide w c) head (add_to (add_links r w c n head) (word wide w (wrap wide (c + n)) 0))
 
 -- with the head of the top at c, and of what comes after the top
-unfoldable pub add_top : List ℕ → List ℕ → ℕ → ℕ → ℕ
+abbrev pub add_top : List ℕ → List ℕ → ℕ → ℕ → ℕ
 add_top r w c s = add_to (add_to s (word wide w c 1)) (word wide w (wrap wide (c + top_bytes r)) 1)
 
 -- with the owner's words of a chunk of n bytes, where it is in use
-unfoldable pub add_owned : List ℕ → ℕ → ℕ → ℕ → ℕ
+abbrev pub add_owned : List ℕ → ℕ → ℕ → ℕ → ℕ
 add_owned w c n s = pick (cinuse_b wide w c) (add_words w c (n / 8 + 1 - 2) 2 s) s
 
 -- over heads, feet and links: s so far, k turns left at c

@@ -17,7 +17,7 @@ one_differs t =
       differ = wrap wide (t.differ + 1);
     }
 
-unfoldable pub noted : Bool → Tally → Tally
+abbrev pub noted : Bool → Tally → Tally
 noted same t = pick same t (one_differs t)
 
 -- one line more is odd
@@ -32,5 +32,5 @@ one_is_odd t =
       differ = t.differ;
     }
 
-unfoldable pub counted : Bool → Tally → Tally
+abbrev pub counted : Bool → Tally → Tally
 counted odd t = pick odd (one_is_odd t) t

@@ -1,5 +1,5 @@
 // A look at the heap: how many chunks lie below the top, and two sums, over heads, feet and links, and over the owners' words.
-#![tactic(auto, using(crate::proofs::SumsCode::laws), unfolding(crate::specs::Sums::add_to, crate::specs::Sums::add_links, crate::specs::Sums::add_chunk, crate::specs::Sums::add_top, crate::specs::Sums::add_owned))]
+#![tactic(auto, using(crate::proofs::SumsCode::laws))]
 
 ghost use Rattle.std.specs.Prelude.{◌≡◌, ◌-◌};
 ghost use Rattle.recorded.specs.Sums.{Makes, walked, walk, chunks_below, add_to, add_words, add_links, add_chunk, add_top, add_owned, heap_sum, owned_sum};

@@ -1,6 +1,4 @@
 // What a replay counts.
-#![tactic(auto, unfolding(crate::specs::Tallies::noted, crate::specs::Tallies::counted))]
-
 ghost use Rattle.std.specs.Prelude.{◌≡◌};
 ghost use Rattle.recorded.specs.Tallies.{noted, counted};
 

@@ -1,6 +1,4 @@
 // Lines of eight decimal numbers, a byte at a time, one space between two. A line that has a # says nothing, nor does an empty one.
-#![tactic(auto, unfolding(crate::specs::Lines::numbers_read, crate::specs::Lines::line_read, crate::specs::Lines::line_odd, crate::specs::Lines::begun, crate::specs::Lines::end_line))]
-
 ghost use Rattle.std.specs.Prelude.{◌≡◌};
 ghost use Rattle.recorded.specs.Lines.{numbers_read, line_odd, begun, ended, end_line};
 
