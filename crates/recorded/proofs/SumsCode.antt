@@ -1,17 +1,18 @@
--- A look at the heap: one law for each return and each turn, what the tests and the callees have told put together as the definition says it.
+-- A look at the heap: the laws of its two loops, a turn and the end of each.
 -- Assumes nothing.
-use mathlib.Core.Bool.{Bool, true, false}
+use mathlib.Core.Bool.{Bool}
 use mathlib.Core.List.{List}
 use mathlib.Core.Path.{◌≡◌, refl, sym, ap, ◌∙◌}
-use Prim.Native.Nat.{ℕ, zero, suc, ◌+◌, ◌-◌, ◌*◌, ◌/◌, ◌%◌, ◌≤◌, ◌<◌}
+use Prim.Native.Nat.{ℕ, zero, suc, ◌+◌, ◌-◌, ◌%◌, ◌≤◌, ◌<◌}
 use native.Mathlib.Omega.{arith}
 use lib.Dec.{eqb}
 use lib.ListN.{get_or}
-use borrow.Author.Tests.{eq-eqb, ne_eqb, lt-ltb, le-ltb, not-true, not-false}
+use borrow.Author.Tests.{eq-eqb, ne_eqb}
 use Rattle.words.specs.Edition.{wide}
-use Rattle.chunk.specs.Bytes.{wrap, word, size_b, cinuse_b}
+use Rattle.chunk.specs.Bytes.{wrap, word, size_b}
 use Rattle.words.specs.Logic.{pick, by}
-use Rattle.recorded.specs.Sums.{walk_turns, top_at, after, walked, walk_from, walk, chunks_from, chunks_below, add_to, add_words, add_links, add_chunk, add_top, add_owned, heap_from, heap_sum, owned_from, owned_sum}
+use Rattle.recorded.specs.Sums.{walk_turns, top_at, after, Walked, walked, walk_from, walk}
+use Rattle.recorded.specs.Sums.{add_to, add_words, add_chunk, add_top, add_owned, chunks_from, chunks_below, heap_from, heap_sum, owned_from, owned_sum}
 
 -- ---- some words
 
@@ -83,42 +84,56 @@ module _ (h : ℕ → ℕ → ℕ) (r w : List ℕ) where
               ∙ sym (further left c n l q) ∙ v.same;
         }
 
--- ---- the three numbers by such a walk
+-- ---- the three numbers by such a walk: what each makes of a number and a chunk, and that its own recursion makes the same
 
 module _ (r w : List ℕ) where
-  count_by : (k c n : ℕ) → (walk_from (λ m d. wrap wide (m + 1)) r w k c n).number ≡ chunks_from r w k c n
+  abbrev one_more : ℕ → ℕ → ℕ
+  one_more n c = wrap wide (n + 1)
+
+  abbrev with_chunk : ℕ → ℕ → ℕ
+  with_chunk s c = add_chunk r w c (size_b wide w c) s
+
+  abbrev with_owned : ℕ → ℕ → ℕ
+  with_owned s c = add_owned w c (size_b wide w c) s
+
+  -- the number of a walk that ends here, or after the chunk here
+  abbrev chosen : Bool → ℕ → ℕ → Walked → Walked
+  chosen b c n on = pick b (walked c n) on
+
+  count_by : (k c n : ℕ) → (walk_from one_more r w k c n).number ≡ chunks_from r w k c n
   unfolding walk_from chunks_from
   count_by zero c n = refl
   count_by (suc k) c n =
-      by (λ b. (pick b (walked c n) (walk_from (λ m d. wrap wide (m + 1)) r w k (after w c) (wrap wide (n + 1)))).number ≡ pick b n (chunks_from r w k (after w c) (wrap wide (n + 1))))
-      (eqb c (top_at r)) (λ p. refl) (λ p. count_by k (after w c) (wrap wide (n + 1)))
+      by (λ b. (chosen b c n (walk_from one_more r w k (after w c) (one_more n c))).number ≡ pick b n (chunks_from r w k (after w c) (one_more n c)))
+      (eqb c (top_at r)) (λ p. refl) (λ p. count_by k (after w c) (one_more n c))
 
-  pub count_walked : {end n : ℕ} → walked end n ≡ walk (λ m d. wrap wide (m + 1)) r w → n ≡ chunks_below r w
+  pub count_walked : {end n : ℕ} → walked end n ≡ walk one_more r w → n ≡ chunks_below r w
   unfolding walk chunks_below
   count_walked q = ap (λ z. z.number) q ∙ count_by walk_turns 0 0
 
-  heap_by : (k c s : ℕ) → add_top r w (walk_from (λ m d. add_chunk r w d (size_b wide w d) m) r w k c s).end (walk_from (λ m d. add_chunk r w d (size_b wide w d) m) r w k c s).number ≡ heap_from r w k c s
+  abbrev topped : Walked → ℕ
+  topped z = add_top r w z.end z.number
+
+  heap_by : (k c s : ℕ) → topped (walk_from with_chunk r w k c s) ≡ heap_from r w k c s
   unfolding walk_from heap_from
   heap_by zero c s = refl
   heap_by (suc k) c s =
-      by (λ b. add_top r w (pick b (walked c s) (walk_from (λ m d. add_chunk r w d (size_b wide w d) m) r w k (after w c) (add_chunk r w c (size_b wide w c) s))).end
-      (pick b (walked c s) (walk_from (λ m d. add_chunk r w d (size_b wide w d) m) r w k (after w c) (add_chunk r w c (size_b wide w c) s))).number
-      ≡ pick b (add_top r w c s) (heap_from r w k (after w c) (add_chunk r w c (size_b wide w c) s)))
-      (eqb c (top_at r)) (λ p. refl) (λ p. heap_by k (after w c) (add_chunk r w c (size_b wide w c) s))
+      by (λ b. topped (chosen b c s (walk_from with_chunk r w k (after w c) (with_chunk s c)))
+      ≡ pick b (add_top r w c s) (heap_from r w k (after w c) (with_chunk s c)))
+      (eqb c (top_at r)) (λ p. refl) (λ p. heap_by k (after w c) (with_chunk s c))
 
-  pub heap_walked : {end n x : ℕ} → walked end n ≡ walk (λ m d. add_chunk r w d (size_b wide w d) m) r w → x ≡ add_top r w end n → x ≡ heap_sum r w
+  pub heap_walked : {end n x : ℕ} → walked end n ≡ walk with_chunk r w → x ≡ add_top r w end n → x ≡ heap_sum r w
   unfolding walk heap_sum
-  heap_walked q e = e ∙ ap (λ z. add_top r w z.end z.number) q ∙ heap_by walk_turns 0 0
+  heap_walked q e = e ∙ ap topped q ∙ heap_by walk_turns 0 0
 
-  owned_by : (k c s : ℕ) → (walk_from (λ m d. add_owned w d (size_b wide w d) m) r w k c s).number ≡ owned_from r w k c s
+  owned_by : (k c s : ℕ) → (walk_from with_owned r w k c s).number ≡ owned_from r w k c s
   unfolding walk_from owned_from
   owned_by zero c s = refl
   owned_by (suc k) c s =
-      by (λ b. (pick b (walked c s) (walk_from (λ m d. add_owned w d (size_b wide w d) m) r w k (after w c) (add_owned w c (size_b wide w c) s))).number
-      ≡ pick b s (owned_from r w k (after w c) (add_owned w c (size_b wide w c) s)))
-      (eqb c (top_at r)) (λ p. refl) (λ p. owned_by k (after w c) (add_owned w c (size_b wide w c) s))
+      by (λ b. (chosen b c s (walk_from with_owned r w k (after w c) (with_owned s c))).number ≡ pick b s (owned_from r w k (after w c) (with_owned s c)))
+      (eqb c (top_at r)) (λ p. refl) (λ p. owned_by k (after w c) (with_owned s c))
 
-  pub owned_walked : {end n : ℕ} → walked end n ≡ walk (λ m d. add_owned w d (size_b wide w d) m) r w → n ≡ owned_sum r w
+  pub owned_walked : {end n : ℕ} → walked end n ≡ walk with_owned r w → n ≡ owned_sum r w
   unfolding walk owned_sum
   owned_walked q = ap (λ z. z.number) q ∙ owned_by walk_turns 0 0
 

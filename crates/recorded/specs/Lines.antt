@@ -1,6 +1,9 @@
 -- A line of the record: eight numbers, which of them is being read, and what the line is so far. Assumes nothing.
-use Rattle.std.specs.Prelude.{Bool, true, false, not, ◌&&◌, ◌||◌, List, ℕ, eqb, ltb, set, Option, Some, None}
+use Rattle.std.specs.Prelude.{Bool, true, false, not, ◌&&◌, ◌||◌, List, get_or, set, Option, Some, None}
+use Rattle.std.specs.Prelude.{ℕ, ◌+◌, ◌-◌, ◌*◌, ◌%◌, eqb, ltb}
 use Rattle.words.specs.Logic.{pick}
+use Rattle.words.specs.Edition.{wide}
+use Rattle.chunk.specs.Bytes.{wrap}
 use Rattle.recorded.specs.declared.tally.Tally.{Tally}
 use Rattle.recorded.specs.declared.text.Kind.{Kind}
 use Rattle.recorded.specs.declared.text.Kind.TheVariants.{Empty, Comment, Numbers, Odd}
@@ -39,6 +42,51 @@ begun l k = record { numbers = pick (ltb k 8) (set l.numbers k 0) l.numbers; at 
 -- the line has said nothing so far
 abbrev pub emptied : Line → Line
 emptied l = record { numbers = l.numbers; at = l.at; kind = Empty }
+
+-- ---- what a byte inside a line leaves
+
+-- a line of numbers, where the line was empty
+abbrev pub numbers_of : Kind → Kind
+numbers_of Empty = Numbers
+numbers_of Comment = Comment
+numbers_of Numbers = Numbers
+numbers_of Odd = Odd
+
+abbrev pub with_number_byte : Line → Line
+with_number_byte l = record { numbers = l.numbers; at = l.at; kind = numbers_of l.kind }
+
+-- an odd line, where the line is no comment
+abbrev pub odd_of : Kind → Kind
+odd_of Empty = Odd
+odd_of Comment = Comment
+odd_of Numbers = Odd
+odd_of Odd = Odd
+
+abbrev pub with_odd_byte : Line → Line
+with_odd_byte l = record { numbers = l.numbers; at = l.at; kind = odd_of l.kind }
+
+-- one digit more in the number that is being read; a number keeps its last twelve
+abbrev pub with_digit : Line → ℕ → Line
+with_digit l d =
+    record {
+      numbers = pick (ltb l.at 8) (set l.numbers l.at (get_or l.numbers l.at 0 % 100000000000 * 10 + d)) l.numbers;
+      at = l.at;
+      kind = l.kind;
+    }
+
+abbrev pub commented : Line → Line
+commented l = record { numbers = l.numbers; at = l.at; kind = Comment }
+
+-- a #, a space, a digit, or none of these
+abbrev pub with_byte : Line → ℕ → Line
+with_byte l b =
+    pick (eqb b 35) (commented l)
+    (pick (eqb b 32) (begun (with_number_byte l) (wrap wide (l.at + 1)))
+    (pick (ltb b 48 || ltb 57 b) (with_odd_byte l) (with_digit (with_number_byte l) (b - 48))))
+
+-- a line that ends is as it was
+abbrev pub after_byte : Line → ℕ → Line
+after_byte l b = pick (eqb b 10) l (with_byte l b)
 
 -- ---- what a byte that may end the line leaves: the line and the tally
 

@@ -2,7 +2,8 @@
 #![tactic(auto, using(crate::proofs::SumsCode::laws))]
 
 ghost use Rattle.std.specs.Prelude.{◌≡◌, ◌-◌};
-ghost use Rattle.recorded.specs.Sums.{Makes, walked, walk, chunks_below, add_to, add_words, add_links, add_chunk, add_top, add_owned, heap_sum, owned_sum};
+ghost use Rattle.recorded.specs.Sums.{Makes, walked, walk, chunks_below, heap_sum, owned_sum};
+ghost use Rattle.recorded.specs.Sums.{add_to, add_words, add_links, add_chunk, add_top, add_owned};
 
 use chunk::access::{ChunkOff, get, plus_offset, sum};
 use chunk::heads::{cinuse, size};
@@ -11,8 +12,8 @@ use chunk::image::{DV, TOP, TOPSIZE};
 // The bound of every walk.
 const TURNS: u32 = 4096;
 
-// Over the chunks below the top, in address order: `each` makes of the number so far and of a chunk the next number. Where the walk ends, and
-// the number.
+// Over the chunks below the top, in address order: `each` makes the next number of the number so far and of a chunk. Where the walk ends,
+// and the last number.
 fn walk<F: Fn(u64, ChunkOff) -> u64>(r: &[u64; 72], w: &[u64], each: F) -> (ChunkOff, u64)
     requires { F.IsAlwaysCallable each }
     ensures { (h : _) → Makes (F.post each) h → walked result.0.0 result.1 ≡ walk h r.now w.now }

@@ -1,6 +1,7 @@
 // Lines of eight decimal numbers, a byte at a time, one space between two. A line that has a # says nothing, nor does an empty one.
-ghost use Rattle.std.specs.Prelude.{◌≡◌};
+ghost use Rattle.std.specs.Prelude.{◌≡◌, ◌<◌};
 ghost use Rattle.recorded.specs.Lines.{numbers_read, line_odd, begun, ended, end_line};
+ghost use Rattle.recorded.specs.Lines.{with_number_byte, with_odd_byte, with_digit, with_byte, after_byte};
 
 use crate::tally::Tally;
 use chunk::access::sum;
@@ -41,7 +42,10 @@ impl Line {
         }
     }
 
-    fn read_digit(&mut self, digit: u8) {
+    fn read_digit(&mut self, digit: u8)
+        requires { digit < 10 }
+        ensures { self.new ≡ with_digit self.old digit }
+    {
         if self.at < 8 {
             let k = self.at as usize;
             self.numbers[k] = self.numbers[k] % 100000000000 * 10 + digit as u64;
@@ -49,20 +53,26 @@ impl Line {
     }
 
     // A byte that is none of a line of numbers.
-    fn odd_byte(&mut self) {
+    fn odd_byte(&mut self)
+        ensures { self.new ≡ with_odd_byte self.old }
+    {
         if self.kind != Kind::Comment {
             self.kind = Kind::Odd;
         }
     }
 
-    fn number_byte(&mut self) {
+    fn number_byte(&mut self)
+        ensures { self.new ≡ with_number_byte self.old }
+    {
         if self.kind == Kind::Empty {
             self.kind = Kind::Numbers;
         }
     }
 
     // A byte inside a line.
-    fn add(&mut self, b: u8) {
+    fn add(&mut self, b: u8)
+        ensures { self.new ≡ with_byte self.old b }
+    {
         match b {
             b'#' => self.kind = Kind::Comment,
             b' ' => {
@@ -79,7 +89,8 @@ impl Line {
 
     // The numbers of a line of eight that ends with this byte. The next line's numbers are not begun: that is `end_line`'s.
     pub fn read_byte(&mut self, b: u8) -> Option<[u64; 8]>
-        ensures { result ≡ numbers_read self.old b }
+        ensures numbers { result ≡ numbers_read self.old b }
+        ensures line { self.new ≡ after_byte self.old b }
     {
         if b != b'\n' {
             self.add(b);
