@@ -50,12 +50,12 @@ fn add_links(r: &[u64; 72], w: &[u64], c: ChunkOff, n: u64, s: u64) -> u64
     ensures { result ≡ add_links r.now w.now c.0 n s }
 {
     if c.0 == r[DV] {
-        return s;
+        s
+    } else if n < 256 {
+        add_words(w, c, 2, 4, s)
+    } else {
+        add_words(w, c, 2, 8, s)
     }
-    if n < 256 {
-        return add_words(w, c, 2, 4, s);
-    }
-    add_words(w, c, 2, 8, s)
 }
 
 fn add_chunk(r: &[u64; 72], w: &[u64], c: ChunkOff, n: u64, s: u64) -> u64
@@ -80,9 +80,10 @@ fn add_owned(w: &[u64], c: ChunkOff, n: u64, s: u64) -> u64
     ensures { result ≡ add_owned w.now c.0 n s }
 {
     if cinuse(w, c) {
-        return add_words(w, c, 2, n / 8 + 1, s);
+        add_words(w, c, 2, n / 8 + 1, s)
+    } else {
+        s
     }
-    s
 }
 
 pub fn chunks_below(r: &[u64; 72], w: &[u64]) -> u64
