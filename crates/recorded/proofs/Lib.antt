@@ -1,2 +1,2 @@
--- What the code leaves at each return, as laws.
+-- The laws of the walk over the chunks.
 pub mod SumsCode

@@ -1,49 +1,17 @@
--- A look at the heap: the laws of its two loops, a turn and the end of each.
--- Assumes nothing.
+-- A look at the heap: the laws of its walk, a turn and the end. Assumes nothing.
 use mathlib.Core.Bool.{Bool}
 use mathlib.Core.List.{List}
 use mathlib.Core.Path.{◌≡◌, refl, sym, ap, ◌∙◌}
-use Prim.Native.Nat.{ℕ, zero, suc, ◌+◌, ◌-◌, ◌%◌, ◌≤◌, ◌<◌}
+use Prim.Native.Nat.{ℕ, zero, suc, ◌+◌, ◌-◌, ◌≤◌, ◌<◌}
 use native.Mathlib.Omega.{arith}
 use lib.Dec.{eqb}
 use lib.ListN.{get_or}
 use borrow.Author.Tests.{eq-eqb, ne_eqb}
 use Rattle.words.specs.Edition.{wide}
-use Rattle.chunk.specs.Bytes.{wrap, word, size_b}
+use Rattle.chunk.specs.Bytes.{wrap, size_b}
 use Rattle.words.specs.Logic.{pick, by}
 use Rattle.recorded.specs.Sums.{walk_turns, top_at, after, Walked, walked, walk_from, walk}
-use Rattle.recorded.specs.Sums.{add_to, add_words, add_chunk, add_top, add_owned, chunks_from, chunks_below, heap_from, heap_sum, owned_from, owned_sum}
-
--- ---- some words
-
--- the words from k to last on the sum so far are those from first to last on s
-pub record Adds (w : List ℕ) (c first last s all k : ℕ) : Type 0 where
-  pub same : add_words w c (last - k) k all ≡ add_words w c (last - first) first s
-
-module _ (w : List ℕ) (c : ℕ) where
-  words_on : (n k s : ℕ) → 0 < n → add_words w c n k s ≡ add_words w c (n - 1) (k + 1) (add_to s (word wide w c (k % 65536)))
-  unfolding add_words
-  words_on zero k s l = absurd (omega arith)
-  words_on (suc n) k s l = ap (λ x. add_words w c x (k + 1) (add_to s (word wide w c (k % 65536)))) (let z : n ≡ suc n - 1 = omega arith in z)
-
-  words_end : (n k s : ℕ) → n ≤ 0 → add_words w c n k s ≡ s
-  unfolding add_words
-  words_end zero k s l = refl
-  words_end (suc n) k s l = absurd (omega arith)
-
-  pub words_start : (first last s : ℕ) → Adds w c first last s s first
-  words_start first last s = record { same = refl }
-
-  module _ {first last s all k : ℕ} (v : Adds w c first last s all k) where
-    pub words_turn : {x y : ℕ} → k < last → x ≡ word wide w c (k % 65536) → y ≡ add_to all x → Adds w c first last s y (k + 1)
-    words_turn {x} {y} l p q =
-        record {
-          same = ap (λ n. add_words w c n (k + 1) y) (let z : last - (k + 1) ≡ last - k - 1 = omega arith in z)
-              ∙ ap (add_words w c (last - k - 1) (k + 1)) (q ∙ ap (add_to all) p) ∙ sym (words_on (last - k) k all (omega arith)) ∙ v.same;
-        }
-
-    pub words_done : last ≤ k → all ≡ add_words w c (last - first) first s
-    words_done l = sym (words_end (last - k) k all (omega arith)) ∙ v.same
+use Rattle.recorded.specs.Sums.{add_chunk, add_top, add_owned, chunks_from, chunks_below, heap_from, heap_sum, owned_from, owned_sum}
 
 -- ---- a walk: what is left of it from here is the walk
 
@@ -137,4 +105,4 @@ module _ (r w : List ℕ) where
   unfolding walk owned_sum
   owned_walked q = ap (λ z. z.number) q ∙ owned_by walk_turns 0 0
 
-pub ruleset laws = (words_start, words_turn, words_done, walk_start, walk_top, walk_end, walk_turn, count_walked, heap_walked, owned_walked)
+pub ruleset laws = (walk_start, walk_top, walk_end, walk_turn, count_walked, heap_walked, owned_walked)

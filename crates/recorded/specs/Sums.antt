@@ -1,6 +1,7 @@
 -- A look at the heap, in the code's own numbers and for all inputs: r is the record's image, w the arena's words. Places and sizes are bytes, and
 -- their sums wrap; a walk takes at most 4096 chunks. Assumes nothing.
 use Rattle.std.specs.Prelude.{◌≡◌, List, ℕ, zero, suc, ◌+◌, ◌-◌, ◌*◌, ◌/◌, ◌%◌, eqb, ltb, get_or}
+use Rattle.std.specs.List.{fold, range_with_len}
 use Rattle.words.specs.Logic.{pick}
 use Rattle.words.specs.Edition.{wide}
 use Rattle.chunk.specs.declared.access.ChunkOff.{ChunkOff}
@@ -62,9 +63,8 @@ abbrev pub add_to : ℕ → ℕ → ℕ
 add_to s x = (s % 1000003 * 31 + x % 1000003) % 1000003
 
 -- with n words of the chunk at c, from word k on
-unfoldable pub add_words : List ℕ → ℕ → ℕ → ℕ → ℕ → ℕ
-add_words w c zero k s = s
-add_words w c (suc n) k s = add_words w c n (k + 1) (add_to s (word wide w c (k % 65536)))
+abbrev pub add_words : List ℕ → ℕ → ℕ → ℕ → ℕ → ℕ
+add_words w c n k s = fold (λ all j. add_to all (word wide w c (j % 65536))) s (range_with_len k n)
 
 -- with the links of a free chunk of n bytes: the spare chunk has none, a small one two, a large one six
 abbrev pub add_links : List ℕ → List ℕ → ℕ → ℕ → ℕ → ℕ

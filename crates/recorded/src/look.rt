@@ -39,11 +39,7 @@ fn add(s: u64, x: u64) -> u64
 fn add_words(w: &[u64], c: ChunkOff, first: u64, last: u64, s: u64) -> u64
     ensures { result ≡ add_words w.now c.0 (last - first) first s }
 {
-    let mut all = s;
-    for k in first..last {
-        all = add(all, get(w, c, (k % 65536) as u32));
-    }
-    all
+    (first..last).fold(s, |all, k| add(all, get(w, c, (k % 65536) as u32)))
 }
 
 fn add_links(r: &[u64; 72], w: &[u64], c: ChunkOff, n: u64, s: u64) -> u64
