@@ -1,9 +1,11 @@
 // One damage: words are changed, the check is asked, the words are put back, the check is asked again.
+ghost use Rattle.std.specs.Prelude.{◌≡◌};
+
 use crate::heap::{Heap, Place};
 use std::io;
 
 // What is wrong, and the words that make it so.
-pub type Damage<'a> = (&'a str, &'a [(Place, u64)]);
+pub type Damage = (&'static str, &'static [(Place, u64)]);
 
 // The heap that is damaged, how many damages there were, and how many answers were wrong.
 #[derive(Drop)]
@@ -23,7 +25,9 @@ impl Bench {
     }
 
     // A line: what the check was asked, and its answer, or that it is wrong.
-    fn tell(&mut self, rt: &impl Print, name: &str, right: bool, answer: &str) -> io::Result<()> {
+    fn tell(&mut self, rt: &impl Print, name: &str, right: bool, answer: &str) -> io::Result<()>
+        ensures { self.new.heap ≡ self.old.heap }
+    {
         if right {
             return println!(rt; "{name}: {answer}");
         }
@@ -32,7 +36,9 @@ impl Bench {
     }
 
     // From here on this heap is damaged.
-    pub fn take(&mut self, rt: &impl Print, heap: Heap, name: &str) -> io::Result<()> {
+    pub fn take(&mut self, rt: &impl Print, heap: Heap, name: &str) -> io::Result<()>
+        ensures { self.new.heap ≡ heap }
+    {
         self.heap = heap;
         let accepted = self.heap.is_sound();
         self.tell(rt, name, accepted, "accepted")
@@ -45,12 +51,17 @@ impl Bench {
         name: &str,
         refused: bool,
         accepted: bool,
-    ) -> io::Result<()> {
+    ) -> io::Result<()>
+        ensures { self.new.heap ≡ self.old.heap }
+    {
         self.tried = self.tried.wrapping_add(1);
         self.tell(rt, name, refused && accepted, "refused, mended accepted")
     }
 
-    fn damage(&mut self, rt: &impl Print, (name, changes): Damage<'_>) -> io::Result<()> {
+    fn damage(&mut self, rt: &impl Print, damage: Damage) -> io::Result<()>
+        ensures { self.new.heap ≡ self.old.heap }
+    {
+        let (name, changes) = damage;
         let good = self.heap;
         for &(place, value) in changes {
             self.heap.put(place, value);
@@ -61,7 +72,10 @@ impl Bench {
         self.judge(rt, name, refused, accepted)
     }
 
-    pub fn damages(&mut self, rt: &impl Print, all: &[Damage<'_>]) -> io::Result<()> {
+    // Each damage is of the same heap, and no damage is left.
+    pub fn damages(&mut self, rt: &impl Print, all: &[Damage]) -> io::Result<()>
+        ensures { self.new.heap ≡ self.old.heap }
+    {
         for damage in all {
             self.damage(rt, *damage)?;
         }

@@ -33,14 +33,14 @@ pub fn counts(rt: &impl Print, bench: &mut Bench) -> io::Result<()> {
     Ok(())
 }
 
-const FRESH: &[Damage<'static>] = &[
+const FRESH: &[Damage] = &[
     ("the record's length is less", &[(Record(LENGTH), 1008)]),
     ("the record's length is more", &[(Record(LENGTH), 1040)]),
     ("PINUSE of a top that is first is clear", &[(Word(1), 944)]),
     ("no foot word", &[(Word(119), 0)]),
 ];
 
-const HEADS: &[Damage<'static>] = &[
+const HEADS: &[Damage] = &[
     ("FLAG4 in a used chunk's head", &[(Word(1), 39)]),
     ("FLAG4 in the top's head", &[(Word(73), 373)]),
     ("the first PINUSE is clear", &[(Word(1), 34)]),
@@ -58,7 +58,7 @@ const HEADS: &[Damage<'static>] = &[
     ("a head of all bits", &[(Word(11), NONE)]),
 ];
 
-const SIZES: &[Damage<'static>] = &[
+const SIZES: &[Damage] = &[
     (
         "two sizes of 40 in the place of 32 and 48",
         &[(Word(1), 43), (Word(6), 43)],
@@ -69,7 +69,7 @@ const SIZES: &[Damage<'static>] = &[
     ),
 ];
 
-const TOPS: &[Damage<'static>] = &[
+const TOPS: &[Damage] = &[
     ("the record's top is wrong", &[(Record(TOP), 560)]),
     ("the record's top is none", &[(Record(TOP), NONE)]),
     ("the record's topsize is wrong", &[(Record(TOPSIZE), 352)]),
@@ -83,7 +83,7 @@ const TOPS: &[Damage<'static>] = &[
     ),
 ];
 
-const EMPTY_PLACES: &[Damage<'static>] = &[
+const EMPTY_PLACES: &[Damage] = &[
     ("dvsize without a dv", &[(Record(DVSIZE), 32)]),
     (
         "dv is a used chunk",
@@ -113,7 +113,7 @@ const EMPTY_PLACES: &[Damage<'static>] = &[
     ),
 ];
 
-const SPARE: &[Damage<'static>] = &[
+const SPARE: &[Damage] = &[
     ("dv's size is wrong", &[(Record(DVSIZE), 192)]),
     ("dv is the chunk before it", &[(Record(DV), 80)]),
     ("dv is no multiple of 16", &[(Record(DV), 120)]),

@@ -1,5 +1,7 @@
 // The good heaps, made by the core's own calls.
-ghost use Rattle.std.specs.Prelude.{◌≤◌};
+ghost use Rattle.std.specs.Prelude.{◌≡◌, ◌≤◌, take};
+ghost use Rattle.words.specs.Edition.{wide};
+ghost use Rattle.sound.specs.SoundBytes.{sound_b};
 
 use chunk::access::{BlockOff, ChunkOff, NONE, difference, from_mem, put};
 use chunk::heads::set_top_head;
@@ -138,7 +140,9 @@ impl Heap {
         }
     }
 
-    pub fn is_sound(&self) -> bool {
+    pub fn is_sound(&self) -> bool
+        ensures { result ≡ sound_b wide self.now.record (take self.now.arena self.now.words) }
+    {
         sound(&self.record, &self.words[..self.arena])
     }
 }

@@ -7,7 +7,7 @@ use chunk::image::{DV, DVSIZE, SMALLMAP, TREEMAP};
 use std::io;
 
 // Chunk 80 of 240 leaves its bin and is all that a root of tree bin 0 would be, but for its size.
-const TWO_PLACES: &[Damage<'static>] = &[
+const TWO_PLACES: &[Damage] = &[
     (
         "a small chunk is in a tree",
         &[
@@ -29,7 +29,7 @@ const TWO_PLACES: &[Damage<'static>] = &[
     ),
 ];
 
-const HEADS_AND_FEET: &[Damage<'static>] = &[
+const HEADS_AND_FEET: &[Damage] = &[
     ("FLAG4 in a free chunk's head", &[(Word(1), 37)]),
     (
         "the first PINUSE is clear, the chunk free",
@@ -39,7 +39,7 @@ const HEADS_AND_FEET: &[Damage<'static>] = &[
     ("PINUSE is set behind a free chunk", &[(Word(5), 35)]),
 ];
 
-const LINKS: &[Damage<'static>] = &[
+const LINKS: &[Damage] = &[
     (
         "a filled small bin's bit is clear",
         &[(Record(SMALLMAP), 0)],
@@ -75,7 +75,7 @@ const LINKS: &[Damage<'static>] = &[
     ),
 ];
 
-const ADJOINING: &[Damage<'static>] = &[
+const ADJOINING: &[Damage] = &[
     (
         "three free chunks adjoin",
         &[

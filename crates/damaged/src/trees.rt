@@ -7,7 +7,7 @@ use chunk::access::{NONE, ROOT};
 use chunk::image::{SMALLMAP, TREEMAP};
 use std::io;
 
-const BINS: &[Damage<'static>] = &[
+const BINS: &[Damage] = &[
     ("a filled tree bin's bit is clear", &[(Record(TREEMAP), 0)]),
     (
         "bit 0 is set too, tree bin 0 is empty",
@@ -53,7 +53,7 @@ const BINS: &[Damage<'static>] = &[
     ),
 ];
 
-const NODES: &[Damage<'static>] = &[
+const NODES: &[Damage] = &[
     ("the root's word 7 is wrong", &[(Word(11), 0)]),
     ("a child's word 7 is wrong", &[(Word(127), 2)]),
     ("a ring member's word 7 is wrong", &[(Word(69), 0)]),
@@ -72,7 +72,7 @@ const NODES: &[Damage<'static>] = &[
     ("the root's foot is wrong", &[(Word(58), 416)]),
 ];
 
-const CHILDREN: &[Damage<'static>] = &[
+const CHILDREN: &[Damage] = &[
     (
         "the children have changed sides",
         &[(Word(8), 1392), (Word(9), 960)],
@@ -89,7 +89,7 @@ const CHILDREN: &[Damage<'static>] = &[
     ),
 ];
 
-const RINGS: &[Damage<'static>] = &[
+const RINGS: &[Damage] = &[
     ("the root's word 2 leads to itself", &[(Word(6), 32)]),
     ("the root's word 3 leads to itself", &[(Word(7), 32)]),
     ("a ring member's word 2 leads to itself", &[(Word(64), 496)]),
@@ -105,31 +105,32 @@ const RINGS: &[Damage<'static>] = &[
     ),
 ];
 
-// The ring's other member stands below child 0 instead.
-const ONE_SIZE_TWICE: &[Damage<'static>] = &[(
-    "one size is twice in a tree",
-    &[
-        (Word(6), 32),
-        (Word(7), 32),
-        (Word(64), 496),
-        (Word(65), 496),
-        (Word(68), 960),
-        (Word(125), 496),
-    ],
-)];
-
-// Child 0 stands in child 1's ring instead.
-const TWO_SIZES_IN_A_RING: &[Damage<'static>] = &[(
-    "two sizes are in one ring",
-    &[
-        (Word(8), NONE),
-        (Word(126), NONE),
-        (Word(122), 1392),
-        (Word(123), 1392),
-        (Word(176), 960),
-        (Word(177), 960),
-    ],
-)];
+const MOVED: &[Damage] = &[
+    // the ring's other member stands below child 0 instead
+    (
+        "one size is twice in a tree",
+        &[
+            (Word(6), 32),
+            (Word(7), 32),
+            (Word(64), 496),
+            (Word(65), 496),
+            (Word(68), 960),
+            (Word(125), 496),
+        ],
+    ),
+    // child 0 stands in child 1's ring instead
+    (
+        "two sizes are in one ring",
+        &[
+            (Word(8), NONE),
+            (Word(126), NONE),
+            (Word(122), 1392),
+            (Word(123), 1392),
+            (Word(176), 960),
+            (Word(177), 960),
+        ],
+    ),
+];
 
 pub fn trees(rt: &impl Print, bench: &mut Bench) -> io::Result<()> {
     bench.take(rt, Heap::tree(), "a tree with two children and a ring")?;
@@ -137,6 +138,5 @@ pub fn trees(rt: &impl Print, bench: &mut Bench) -> io::Result<()> {
     bench.damages(rt, NODES)?;
     bench.damages(rt, CHILDREN)?;
     bench.damages(rt, RINGS)?;
-    bench.damages(rt, ONE_SIZE_TWICE)?;
-    bench.damages(rt, TWO_SIZES_IN_A_RING)
+    bench.damages(rt, MOVED)
 }
