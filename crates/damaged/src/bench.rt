@@ -1,5 +1,6 @@
 // One damage: words are changed, the check is asked, the words are put back, the check is asked again.
 ghost use Rattle.std.specs.Prelude.{◌≡◌};
+ghost use Rattle.damaged.specs.Counts.{told, judged};
 
 use crate::heap::{Heap, Place};
 use std::io;
@@ -26,7 +27,7 @@ impl Bench {
 
     // A line: what the check was asked, and its answer, or that it is wrong.
     fn tell(&mut self, rt: &impl Print, name: &str, right: bool, answer: &str) -> io::Result<()>
-        ensures { self.new.heap ≡ self.old.heap }
+        ensures { self.new ≡ told right self.old }
     {
         if right {
             return println!(rt; "{name}: {answer}");
@@ -52,7 +53,7 @@ impl Bench {
         refused: bool,
         accepted: bool,
     ) -> io::Result<()>
-        ensures { self.new.heap ≡ self.old.heap }
+        ensures { self.new ≡ judged refused accepted self.old }
     {
         self.tried = self.tried.wrapping_add(1);
         self.tell(rt, name, refused && accepted, "refused, mended accepted")
