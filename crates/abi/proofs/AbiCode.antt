@@ -1,27 +1,24 @@
 -- The C functions: what was lent, the record's words in and out, and one law for each return of a call. Assumes nothing.
-use mathlib.Core.Bool.{Bool, true, false, ◌&&◌}
-use mathlib.Core.List.{List}
-use mathlib.Core.Logic.{⊎_elim}
-use mathlib.Core.Path.{◌≡◌, refl, sym, ap, ◌∙◌}
-use Prim.Native.Nat.{ℕ, ◌+◌, ◌/◌, ◌≤◌, ◌<◌}
-use native.Mathlib.Omega.{arith}
-use lib.Dec.{leb, eqb}
-use lib.ListN.{length, get_or, set}
-use lib.Seq.{get_or-set_same, get_or-set_other, set-get_or}
-use borrow.Author.Tests.{leb-true, eqb-true, eq-eqb, ne_eqb}
-use Rattle.words.specs.Logic.{same?, false-true}
+use Rattle.std.proofs.Common.{◌≡◌, ℕ, ◌+◌, ◌/◌, ◌≤◌, Bool, true, false, ◌&&◌, leb, eqb, List, length, get_or, set, refl, sym, ap, ◌∙◌, arith, eq-eqb, ne_eqb}
+use borrow.Author.Tests.{leb-true, eqb-true}
+use lib.ListN.{length-set}
+use lib.Seq.{set-get_or}
+use Rattle.words.specs.Logic.{false-true}
 use Rattle.words.specs.Edition.{wide}
-use Rattle.rules.specs.Calls.{Call, Usable, Answer, refused, bad_count, unsound}
+use Rattle.rules.specs.Calls.{Call, Usable, Answer, number, refused}
 use Rattle.sound.specs.SoundBytes.{count_ok, sound_b}
 use Rattle.calls.specs.Counts.{count_allowed}
 use Rattle.calls.specs.CallBytes.{told, refusal, call_b}
 use Rattle.holds.specs.Holds.{Control}
-use Rattle.calls.specs.Record.{reads, image}
+use Rattle.calls.specs.Record.{image}
 use Rattle.calls.specs.ByValue.{ends, set_up_a, rebuild_a}
 use Rattle.calls.specs.RecordLaws.{reads_all}
+use Rattle.arena.specs.declared.answers.Reason as R
+use Rattle.arena.specs.declared.answers.Reason.TheVariants.{BadCount, Unsound}
+use Rattle.arena.specs.Answers.{reason_of}
 use Rattle.batch.specs.BatchBytes.{batched, batch_m}
 use Rattle.batch.proofs.BatchLaws.{set_batch}
-use Rattle.abi.specs.Words.{said, value_of, out_of, lent_ok, copied, odd_record, tell_c, call_c, set_c, set_up_c, rebuild_c, sound_c}
+use Rattle.abi.specs.Words.{said, value_of, refused_value, out_of, lent_ok, copied, odd_record, tell_c, call_c, set_c, set_up_c, rebuild_c, sound_c}
 use Rattle.abi.specs.Words.{ran, answered, count_out, tell_batch, batch_c}
 
 -- ---- what was lent
@@ -48,42 +45,23 @@ module _ (m n : ℕ) {x : Bool} (e : x ≡ lent_ok m n) (t : x ≡ true) where
   unfolding lent_ok
   lent_2 = leb-true 2 n (both (eqb m 72) (leb 2 n) (sym e ∙ t)).1
 
--- ---- words, one by one
+-- ---- the record's words, out
 
--- the first i words of a list are those of another
-abbrev pub Agree : List ℕ → List ℕ → ℕ → Type 0
-Agree a b i = (k : ℕ) → k < i → get_or a k 0 ≡ get_or b k 0
-
-pub agree_next : (a b : List ℕ) (i : ℕ) → i < length a → Agree a b i → Agree (set a i (get_or b i 0)) b (i + 1)
-agree_next a b i l f k u = ⊎_elim here (λ n. get_or-set_other a i k (get_or b i 0) 0 n ∙ f k (omega (arith, n))) (same? k i)
-  where
-    here : k ≡ i → get_or (set a i (get_or b i 0)) k 0 ≡ get_or b k 0
-    here q = rw q (get_or-set_same a i (get_or b i 0) 0 l)
-
-pub agree_reads : (a b : List ℕ) (i : ℕ) → 72 ≤ i → length a ≡ 72 → Agree a b i → a ≡ reads b 0 72
-agree_reads a b i m l f = reads_all a b 0 72 l (λ k u. f k (omega arith) ∙ ap (λ z. get_or b z 0) (let z : k ≡ 0 + k = omega arith in z))
-
-pub agree_all : (a b : List ℕ) (i : ℕ) → 72 ≤ i → length a ≡ 72 → length b ≡ 72 → Agree a b i → a ≡ b
-agree_all a b i m l t f = agree_reads a b i m l f ∙ sym (agree_reads b b 72 (omega arith) t (λ k u. refl))
+pub copied_is : (r : List ℕ) → length r ≡ 72 → set r 7 0 ≡ copied r
+unfolding copied
+copied_is r l = reads_all (set r 7 0) (set r 7 0) 0 72 (simp length-set l)
+    (λ k u. ap (λ z. get_or (set r 7 0) z 0) (let y : k ≡ 0 + k = omega arith in y))
 
 -- ---- the answer's words
 
-pub told_out : (out : List ℕ) (a : Answer) {n v : ℕ} → n ≡ refusal a → v ≡ value_of a → set (set out 0 n) 1 v ≡ out_of out a
-unfolding out_of
-told_out out a p q = rw (p, q) refl
-
 module _ (n : ℕ) {x : Bool} (e : x ≡ count_ok n) where
-  pub odd_unsound : x ≡ true → refused unsound ≡ odd_record n
+  pub odd_unsound : x ≡ true → refused (reason_of Unsound) ≡ odd_record n
   unfolding odd_record
   odd_unsound q = sym (rw (sym (count_allowed n) ∙ sym e ∙ q) refl)
 
-  pub odd_count : x ≡ false → refused bad_count ≡ odd_record n
+  pub odd_count : x ≡ false → refused (reason_of BadCount) ≡ odd_record n
   unfolding odd_record
   odd_count q = sym (rw (sym (count_allowed n) ∙ sym e ∙ q) refl)
-
-pub copied_is : (r : List ℕ) {v : List ℕ} → v ≡ reads (set r 7 0) 0 72 → v ≡ copied r
-unfolding copied
-copied_is r q = q
 
 -- ---- a call's returns
 
@@ -111,10 +89,19 @@ module _ (r w out : List ℕ) (k : Call) {x : Bool} (e : x ≡ lent_ok (length r
         said_same w' p v q ∙ ap (tell_c out) (c ∙ ap (λ y. call_b wide y w k) same)
         ∙ sym (rw (sym e ∙ t, eq-eqb (get_or r 7 0) 0 (sym spare ∙ z)) refl)
 
+-- a value's two words
+pub granted_out : (out : List ℕ) (a : Answer) {v : ℕ} → v ≡ value_of a → refusal a ≡ 0 → set (set out 0 0) 1 v ≡ out_of out a
+unfolding out_of
+granted_out out a p q = rw (p, q) refl
+
+pub refused_out : (out : List ℕ) (why : R.Reason) {n v : ℕ} → n ≡ number (reason_of why) → v ≡ refused_value (reason_of why)
+    → set (set out 0 n) 1 v ≡ out_of out (refused (reason_of why))
+unfolding out_of
+refused_out out why p q = rw (p, q) refl
+
 -- 72 words whose eighth is 0 come out as they came in
 copied_same : (r : List ℕ) → length r ≡ 72 → get_or r 7 0 ≡ 0 → r ≡ copied r
-unfolding copied
-copied_same r l z = agree_reads r r 72 (omega arith) l (λ k u. refl) ∙ ap (λ y. reads y 0 72) (sym (ap (set r 7) (sym z) ∙ set-get_or r 7 0))
+copied_same r l z = sym (ap (set r 7) (sym z) ∙ set-get_or r 7 0) ∙ copied_is r l
 
 pub usable_said : (r w out : List ℕ) (off : ℕ) {x : Bool} (e : x ≡ lent_ok (length r) (length out)) (t : x ≡ true) {s : List ℕ} (same : s ≡ r) (a : Answer) {n : ℕ} {o : List ℕ} → get_or s 7 0 ≡ 0
     → told a s w ≡ call_b wide s w (Usable off) → n ≡ refusal a → o ≡ out_of out a → said n r w o ≡ call_c r w out (Usable off)
@@ -174,11 +161,11 @@ module _ (r w out cs xs : List ℕ) {x : Bool} (e : x ≡ lent_ok (length r) (le
         ap (λ y. ran y r w o xs) (p ∙ ap refusal i) ∙ ap (λ y. ran (refusal (odd_record (length w))) r w y xs) (q ∙ ap (out_of out) i)
         ∙ sym (rw (sym e ∙ t, ne_eqb (get_or r 7 0) 0 (λ z. f (sym first ∙ z))) refl)
 
-    pub batch_ran : (n : ℕ) (r' w' xs' : List ℕ) {o v : List ℕ} → get_or s 7 0 ≡ 0 → batched n r' w' xs' ≡ batch_m wide s w cs xs
-        → v ≡ reads (set r' 7 0) 0 72 → o ≡ count_out out n (length cs) → ran n v w' o xs' ≡ batch_c r w out cs xs
-    unfolding batch_c copied
-    batch_ran n r' w' xs' {o = o} z b v q =
-        ap (λ y. ran n y w' o xs') v ∙ ap (λ y. ran n (copied r') w' y xs') q
+    pub batch_ran : (n : ℕ) (r' w' xs' : List ℕ) {m : ℕ} {o v : List ℕ} → get_or s 7 0 ≡ 0 → batched n r' w' xs' ≡ batch_m wide s w cs xs
+        → v ≡ copied r' → m ≡ n → o ≡ count_out out n (length cs) → ran m v w' o xs' ≡ batch_c r w out cs xs
+    unfolding batch_c
+    batch_ran n r' w' xs' {o = o} {v = v} z b u p q =
+        ap (λ y. ran y v w' o xs') p ∙ ap (λ y. ran n y w' o xs') u ∙ ap (λ y. ran n (copied r') w' y xs') q
         ∙ ap (tell_batch out (length cs)) (b ∙ ap (λ y. batch_m wide y w cs xs) same ∙ set_batch wide r w cs xs (lent_72 (length r) (length out) e t))
         ∙ sym (rw (sym e ∙ t, eq-eqb (get_or r 7 0) 0 (first ∙ z)) refl)
 

@@ -1,99 +1,96 @@
 // The answer as two words: the refusal's number, 0 where nothing is refused, and the offset or the usable bytes.
 ghost use Rattle.std.specs.Prelude.{◌≡◌, ◌≤◌, length};
-ghost use Rattle.rules.specs.Calls as rules;
+ghost use Rattle.rules.specs.Calls.{Answer, granted, done, bytes, refused};
 ghost use Rattle.calls.specs.CallBytes.{refusal};
-ghost use Rattle.arena.specs.Answers.{reason_of, answer_of};
-ghost use Rattle.abi.specs.Words.{value_of, refused_value, out_of, odd_record, answered, count_out};
+ghost use Rattle.arena.specs.Answers.{reason_of, answer_in};
+ghost use Rattle.batch.specs.Whole.{whole_number};
+ghost use Rattle.abi.specs.Words.{value_of, refused_value, out_of, odd_record, count_out};
 
-use arena::answers::{Answer, Reason};
+use arena::answers::Reason;
+use batch::whole::WholeRefusal;
+use chunk::access::BlockOff;
 use sound::words_ok;
-
-fn number(why: Reason) -> u64
-    ensures { result ≡ rules.number (reason_of why) }
-{
-    match why {
-        Reason::BadCount => 1,
-        Reason::Unsound => 2,
-        Reason::BadAlignment => 3,
-        Reason::TooMany => 4,
-        Reason::NotLive(_) => 5,
-        Reason::NoRoom => 6,
-    }
-}
-
-fn number_of(a: Answer) -> u64
-    ensures { result ≡ refusal (answer_of a) }
-{
-    match a {
-        Answer::Granted(_) => 0,
-        Answer::Done => 0,
-        Answer::Bytes(_) => 0,
-        Answer::Refused(why) => number(why),
-    }
-}
 
 // Reason 5 carries the offset that it was asked about.
 fn refused_value(why: Reason) -> u64
     ensures { result ≡ refused_value (reason_of why) }
 {
     match why {
-        Reason::BadCount => 0,
-        Reason::Unsound => 0,
-        Reason::BadAlignment => 0,
-        Reason::TooMany => 0,
         Reason::NotLive(b) => b.0,
-        Reason::NoRoom => 0,
+        _ => 0,
     }
 }
 
-fn value_of(a: Answer) -> u64
-    ensures { result ≡ value_of (answer_of a) }
-{
-    match a {
-        Answer::Granted(b) => b.0,
-        Answer::Done => 0,
-        Answer::Bytes(n) => n,
-        Answer::Refused(why) => refused_value(why),
+// What a call grants, as the word that C reads beside a 0.
+pub trait Value: Copy {
+    ghost says: { Self → Answer };
+
+    fn value(self) -> u64
+        ensures value { result ≡ value_of (says self) }
+        ensures granted { refusal (says self) ≡ 0 };
+}
+
+impl Value for BlockOff {
+    ghost says = { λ b. granted b.0 };
+
+    fn value(self) -> u64 {
+        self.0
     }
 }
 
-pub fn tell(out: &mut [u64], a: Answer) -> u64
+impl Value for () {
+    ghost says = { λ x. done };
+
+    fn value(self) -> u64 {
+        0
+    }
+}
+
+impl Value for u64 {
+    ghost says = { λ n. bytes n };
+
+    fn value(self) -> u64 {
+        self
+    }
+}
+
+// The answer's two words, and the number that C gets back.
+pub fn tell<T: Value>(out: &mut [u64], answer: Result<T, Reason>) -> u64
     requires { 2 ≤ length out.old }
-    ensures value { result ≡ refusal (answer_of a) }
-    ensures out { out.new ≡ out_of out.old (answer_of a) }
+    ensures number { result ≡ refusal (answer_in T.says answer) }
+    ensures out { out.new ≡ out_of out.old (answer_in T.says answer) }
 {
-    let n = number_of(a);
-    let v = value_of(a);
+    let (n, value) = match answer {
+        Ok(granted) => (0, granted.value()),
+        Err(why) => (u64::from(why), refused_value(why)),
+    };
     out[0] = n;
-    out[1] = v;
+    out[1] = value;
     n
 }
 
 // A record whose eighth word is not 0 is not sound; the word count comes first.
-pub fn odd_record(w: &[u64]) -> Answer
-    ensures { answer_of result ≡ odd_record (length w.now) }
+pub fn odd_record(w: &[u64]) -> Reason
+    ensures { refused (reason_of result) ≡ odd_record (length w.now) }
 {
     if words_ok(w.len()) {
-        return Answer::Refused(Reason::Unsound);
+        Reason::Unsound
+    } else {
+        Reason::BadCount
     }
-    Answer::Refused(Reason::BadCount)
 }
 
-// How many calls of a batch were answered: none where the whole was refused with n.
-fn answered_of(n: u64, calls: usize) -> u64
-    ensures { result ≡ answered n calls }
-{
-    if n != 0 {
-        return 0;
-    }
-    (calls / 3) as u64
-}
-
-pub fn tell_count(out: &mut [u64], n: u64, calls: usize)
+// How many calls of a list were answered: none where the whole was refused.
+pub fn tell_count(out: &mut [u64], whole: Result<(), WholeRefusal>, calls: usize) -> u64
     requires { 2 ≤ length out.old }
-    ensures { out.new ≡ count_out out.old n calls }
+    ensures number { result ≡ whole_number whole }
+    ensures out { out.new ≡ count_out out.old (whole_number whole) calls }
 {
-    let v = answered_of(n, calls);
+    let (n, answered) = match whole {
+        Ok(()) => (0, (calls / 3) as u64),
+        Err(why) => (u64::from(why), 0),
+    };
     out[0] = n;
-    out[1] = v;
+    out[1] = answered;
+    n
 }

@@ -5,14 +5,14 @@
 mod answer;
 
 ghost use Rattle.std.specs.Prelude.{◌≡◌, ◌≤◌, length};
-ghost use Rattle.rules.specs.Calls.{Malloc, Free, Realloc, Memalign, Usable};
-ghost use Rattle.calls.specs.Record.{reads};
-ghost use Rattle.arena.specs.Answers.{answer_of};
+ghost use Rattle.rules.specs.Calls.{Call, Malloc, Free, Realloc, Memalign, Usable};
 ghost use Rattle.calls.specs.CallBytes.{refusal};
+ghost use Rattle.arena.specs.Answers.{answer_in};
+ghost use Rattle.arena.specs.Closures.{Makes};
 ghost use Rattle.abi.specs.Words.{lent_ok, copied, said, out_of, call_c, set_up_c, rebuild_c, sound_c, ran, batch_c};
 
-use crate::answer::{odd_record, tell, tell_count};
-use arena::answers::Answer;
+use crate::answer::{Value, odd_record, tell, tell_count};
+use arena::answers::Reason;
 use arena::control::image_of;
 use arena::on_image;
 use batch::batch_on_image;
@@ -27,10 +27,7 @@ const SPARE: usize = 7;
 fn lent_ok(rec: usize, out: usize) -> bool
     ensures { result ≡ lent_ok rec out }
 {
-    if rec != 72 {
-        return false;
-    }
-    out >= 2
+    rec == 72 && out >= 2
 }
 
 fn image_in(rec: &[u64]) -> [u64; 72]
@@ -38,37 +35,55 @@ fn image_in(rec: &[u64]) -> [u64; 72]
     ensures { result ≡ rec.now }
 {
     let mut r = [0u64; 72];
-    let mut i: usize = 0;
-    while i < 72 {
-        r[i] = rec[i];
-        i += 1;
-    }
+    r.copy_from_slice(rec);
     r
 }
 
-fn copy_out(r: &[u64; 72], rec: &mut [u64])
+// The record's words, written: the eighth word stays 0.
+fn copy_out(r: &mut [u64; 72], rec: &mut [u64])
     requires { length rec.old ≡ 72 }
-    ensures { rec.new ≡ reads r.now 0 72 }
+    ensures { rec.new ≡ copied r.old }
 {
-    let mut i: usize = 0;
-    while i < 72 {
-        rec[i] = r[i];
-        i += 1;
-    }
+    r[SPARE] = 0;
+    rec.copy_from_slice(r);
 }
 
-// The record's words and the answer's, written: the eighth word stays 0.
-fn hand_out(rec: &mut [u64], image: [u64; 72], out: &mut [u64], a: Answer) -> u64
+// The record's words and the answer's, written.
+fn hand_out<T: Value>(
+    rec: &mut [u64],
+    r: &mut [u64; 72],
+    out: &mut [u64],
+    a: Result<T, Reason>,
+) -> u64
     requires rec_len { length rec.old ≡ 72 }
     requires out_len { 2 ≤ length out.old }
-    ensures value { result ≡ refusal (answer_of a) }
-    ensures rec { rec.new ≡ copied image }
-    ensures out { out.new ≡ out_of out.old (answer_of a) }
+    ensures number { result ≡ refusal (answer_in T.says a) }
+    ensures rec { rec.new ≡ copied r.old }
+    ensures out { out.new ≡ out_of out.old (answer_in T.says a) }
 {
-    let mut r = image;
-    r[SPARE] = 0;
-    copy_out(&r, rec);
+    copy_out(r, rec);
     tell(out, a)
+}
+
+// A call on the record that was lent, and its answer. A record whose eighth word is not 0 is refused.
+fn on_record<T: Value, F: FnOnce(&mut [u64; 72], &mut [u64]) -> Result<T, Reason>>(
+    rec: &mut [u64],
+    w: &mut [u64],
+    out: &mut [u64],
+    call: F,
+) -> u64
+    requires { F.IsAlwaysCallable call }
+    ensures { (k : Call) → Makes T.says F.FnOnce call k → said result rec.new w.new out.new ≡ call_c rec.old w.old out.old k }
+{
+    if !lent_ok(rec.len(), out.len()) {
+        return 2;
+    }
+    let mut r = image_in(rec);
+    if r[SPARE] != 0 {
+        return tell::<T>(out, Err(odd_record(w)));
+    }
+    let a = call(&mut r, w);
+    hand_out(rec, &mut r, out, a)
 }
 
 // ---- the calls
@@ -80,9 +95,8 @@ pub fn nuka_setup(rec: &mut [u64], w: &mut [u64], out: &mut [u64]) -> u64
         return 2;
     }
     let x = arena::setup(w);
-    let c = x.control;
-    let a = x.answer;
-    hand_out(rec, image_of(c), out, a)
+    let mut r = image_of(x.control);
+    hand_out(rec, &mut r, out, x.answer)
 }
 
 // The record that was lent is written, not read.
@@ -94,51 +108,31 @@ pub fn nuka_rebuild(rec: &mut [u64], w: &mut [u64], out: &mut [u64], start: u64)
         return 2;
     }
     let x = arena::rebuild(w, start);
-    let c = x.control;
-    let a = x.answer;
-    hand_out(rec, image_of(c), out, a)
+    let mut r = image_of(x.control);
+    hand_out(rec, &mut r, out, x.answer)
 }
 
 pub fn nuka_malloc(rec: &mut [u64], w: &mut [u64], out: &mut [u64], bytes: u64) -> u64
     ensures { said result rec.new w.new out.new ≡ call_c rec.old w.old out.old (Malloc bytes) }
 {
-    if !lent_ok(rec.len(), out.len()) {
-        return 2;
-    }
-    let mut r = image_in(rec);
-    if r[SPARE] != 0 {
-        return tell(out, odd_record(w));
-    }
-    let a = on_image::malloc(&mut r, w, bytes);
-    hand_out(rec, r, out, a)
+    on_record(rec, w, out, |r, w| on_image::malloc(r, w, bytes))
 }
 
 pub fn nuka_free(rec: &mut [u64], w: &mut [u64], out: &mut [u64], offset: u64) -> u64
     ensures { said result rec.new w.new out.new ≡ call_c rec.old w.old out.old (Free offset) }
 {
-    if !lent_ok(rec.len(), out.len()) {
-        return 2;
-    }
-    let mut r = image_in(rec);
-    if r[SPARE] != 0 {
-        return tell(out, odd_record(w));
-    }
-    let a = on_image::free(&mut r, w, BlockOff(offset));
-    hand_out(rec, r, out, a)
+    on_record(rec, w, out, |r, w| on_image::free(r, w, BlockOff(offset)))
 }
 
 pub fn nuka_realloc(rec: &mut [u64], w: &mut [u64], out: &mut [u64], offset: u64, bytes: u64) -> u64
     ensures { said result rec.new w.new out.new ≡ call_c rec.old w.old out.old (Realloc offset bytes) }
 {
-    if !lent_ok(rec.len(), out.len()) {
-        return 2;
-    }
-    let mut r = image_in(rec);
-    if r[SPARE] != 0 {
-        return tell(out, odd_record(w));
-    }
-    let a = on_image::realloc(&mut r, w, BlockOff(offset), bytes);
-    hand_out(rec, r, out, a)
+    on_record(
+        rec,
+        w,
+        out,
+        |r, w| on_image::realloc(r, w, BlockOff(offset), bytes),
+    )
 }
 
 pub fn nuka_memalign(
@@ -150,15 +144,12 @@ pub fn nuka_memalign(
 ) -> u64
     ensures { said result rec.new w.new out.new ≡ call_c rec.old w.old out.old (Memalign alignment bytes) }
 {
-    if !lent_ok(rec.len(), out.len()) {
-        return 2;
-    }
-    let mut r = image_in(rec);
-    if r[SPARE] != 0 {
-        return tell(out, odd_record(w));
-    }
-    let a = on_image::memalign(&mut r, w, alignment, bytes);
-    hand_out(rec, r, out, a)
+    on_record(
+        rec,
+        w,
+        out,
+        |r, w| on_image::memalign(r, w, alignment, bytes),
+    )
 }
 
 pub fn nuka_usable(rec: &[u64], w: &[u64], out: &mut [u64], offset: u64) -> u64
@@ -169,7 +160,7 @@ pub fn nuka_usable(rec: &[u64], w: &[u64], out: &mut [u64], offset: u64) -> u64
     }
     let r = image_in(rec);
     if r[SPARE] != 0 {
-        return tell(out, odd_record(w));
+        return tell::<u64>(out, Err(odd_record(w)));
     }
     tell(out, on_image::usable(&r, w, BlockOff(offset)))
 }
@@ -190,13 +181,11 @@ pub fn nuka_batch(
     }
     let mut r = image_in(rec);
     if r[SPARE] != 0 {
-        return tell(out, odd_record(w));
+        return tell::<u64>(out, Err(odd_record(w)));
     }
-    let n = batch_on_image(&mut r, w, calls, answers);
-    r[SPARE] = 0;
-    copy_out(&r, rec);
-    tell_count(out, n, calls.len());
-    n
+    let whole = batch_on_image(&mut r, w, calls, answers);
+    copy_out(&mut r, rec);
+    tell_count(out, whole, calls.len())
 }
 
 // 0 for a sound pair, else the number of the refusal that every call would give.
@@ -210,8 +199,9 @@ pub fn nuka_sound(rec: &[u64], w: &[u64]) -> u64
         return 1;
     }
     let r = image_in(rec);
-    if r[SPARE] != 0 {
-        return 2;
+    if r[SPARE] == 0 && sound::sound(&r, w) {
+        0
+    } else {
+        2
     }
-    if sound::sound(&r, w) { 0 } else { 2 }
 }

@@ -1,10 +1,8 @@
 -- The calls by value: what the calls on the record's words have told, handed back as `call_a` says it. Assumes nothing.
 use Rattle.std.proofs.Common.{◌≡◌, ℕ, ◌+◌, ◌-◌, ◌*◌, ◌≤◌, Bool, true, false, List, length, get_or, set, Result, Ok, Err, is_ok, refl, sym, ap, ◌∙◌, arith}
-use Rattle.std.specs.Prelude.{⊤}
 use Rattle.words.specs.Logic.{pick, pick_case}
 use Rattle.words.specs.Edition.{wide, no_link}
 use Rattle.rules.specs.Calls.{Call, Usable, Answer, done, refused, bad_count, allowed_count}
-use Rattle.chunk.specs.declared.access.BlockOff.{BlockOff}
 use Rattle.lend.specs.LendBytes.{lent, lent_from}
 use Rattle.holds.specs.Holds.{Control, fresh_control}
 use Rattle.sound.specs.SoundBytes.{count_ok, sound_b, live_b}
@@ -12,7 +10,8 @@ use Rattle.calls.specs.CallBytes.{Told, told, call_b}
 use Rattle.calls.specs.Record.{image, numbers_of, empty_control}
 use Rattle.calls.specs.ByValue.{ends, handed_back, heard, call_a, set_up_a, rebuild_says, rebuild_a}
 use Rattle.rebuild.specs.RebuildBytes.{Rebuilt, rebuilt, rebuild_b}
-use Rattle.arena.specs.Answers.{block_answer, done_answer}
+use Rattle.arena.specs.Answers.{answer_in}
+use Rattle.arena.specs.Closures.{HandsOver}
 use Rattle.arena.specs.declared.answers.Reason.{Reason}
 use Rattle.calls.specs.Counts.{count_allowed, count_range}
 
@@ -52,27 +51,16 @@ module _ (w : List ℕ) {x : Bool} (e : x ≡ count_ok (length w)) where
   pub setup_long : x ≡ true → 16 ≤ length w
   setup_long q = (count_range (length w) (sym e ∙ q)).0
 
--- ---- handed back: each result as its answer has it
+-- ---- handed back, as the answer has it
 
-abbrev kept : Bool → List ℕ → Control → Control
-kept b r c = pick b (numbers_of r) c
+module _ {T : Type 0} (says : T → Answer) (h : HandsOver says) (c : Control) where
+  kept_is : (x : Result T Reason) (r : List ℕ) → pick (is_ok x) (numbers_of r) c ≡ handed_back (answer_in says x) c r
+  kept_is (Ok x) r = sym (h x c r)
+  kept_is (Err why) r = refl
 
-hand_block : (x : Result BlockOff Reason) (c : Control) (r : List ℕ) → kept (is_ok x) r c ≡ handed_back (block_answer x) c r
-hand_block (Ok b) c r = refl
-hand_block (Err why) c r = refl
-
-hand_done : (x : Result ⊤ Reason) (c : Control) (r : List ℕ) → kept (is_ok x) r c ≡ handed_back (done_answer x) c r
-hand_done (Ok u) c r = refl
-hand_done (Err why) c r = refl
-
-module _ (c : Control) (w : List ℕ) (k : Call) {r r' w' : List ℕ} {d : Control} where
-  pub block_ends : {x y : Result BlockOff Reason} → r ≡ image c → told (block_answer x) r' w' ≡ call_b wide r w k → y ≡ x → d ≡ kept (is_ok x) r' c
-      → ends (block_answer y) d w' ≡ call_a wide c w k
-  block_ends {x = x} q t i j = call_ends c w k q t (ap block_answer i) (j ∙ hand_block x c r')
-
-  pub done_ends : {x y : Result ⊤ Reason} → r ≡ image c → told (done_answer x) r' w' ≡ call_b wide r w k → y ≡ x → d ≡ kept (is_ok x) r' c
-      → ends (done_answer y) d w' ≡ call_a wide c w k
-  done_ends {x = x} q t i j = call_ends c w k q t (ap done_answer i) (j ∙ hand_done x c r')
+  pub value_ends : (w : List ℕ) (k : Call) {r r' w' : List ℕ} {d : Control} {x y : Result T Reason} → r ≡ image c
+      → told (answer_in says x) r' w' ≡ call_b wide r w k → y ≡ x → d ≡ pick (is_ok x) (numbers_of r') c → ends (answer_in says y) d w' ≡ call_a wide c w k
+  value_ends w k {r' = r'} {x = x} q t i j = call_ends c w k q t (ap (answer_in says) i) (j ∙ kept_is x r')
 
 -- ---- the rebuild
 
@@ -91,4 +79,4 @@ lent_of w off p q = q ∙ ap (λ z. lent wide z w off) p
 pub lent_from_lem : {r s : List ℕ} (w : List ℕ) (off : ℕ) {a : ℕ} (b : ℕ) → r ≡ s → a ≡ lent_from wide r w off * 8 + b → a ≡ lent_from wide s w off * 8 + b
 lent_from_lem w off b p q = q ∙ ap (λ z. lent_from wide z w off * 8 + b) p
 
-pub ruleset laws = (block_ends, done_ends, usable_ends, rebuild_ends)
+pub ruleset laws = (usable_ends, rebuild_ends)

@@ -13,7 +13,7 @@ use Rattle.memalign.specs.MemalignBytes.{memalign_b}
 use Rattle.sound.specs.SoundBytes.{sound_b, usable_b}
 use Rattle.calls.specs.CallBytes.{told, chunk_at, grant_or_no, freed, core_call, call_b}
 use Rattle.arena.specs.Refusals.{rows12, row3, row4, row5}
-use Rattle.arena.specs.RefusalLaws.{heeded, by12, by3, by4, by5, heed}
+use Rattle.arena.proofs.RefusalLaws.{heeded, by12, by3, by4, by5, heed}
 
 -- ---- the five calls
 

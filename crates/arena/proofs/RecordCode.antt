@@ -66,10 +66,6 @@ all_fit : (c : Control) → length c.smallbins ≡ 32 → length c.treebins ≡ 
 all_fit c p q s t =
     record { heads = offsets-length c.smallbins ∙ p; roots = offsets-length c.treebins ∙ q; small = s; trees = t }
 
-pub copied_all : (r : List ℕ) (from : ℕ) (xs : List ChunkOff) (i : ℕ) {v : List ℕ} → i ≤ 32 → 32 ≤ i → v ≡ copied_up r from (offsets xs) i
-    → v ≡ copied_up r from (offsets xs) 32
-copied_all r from xs i l m q = q ∙ ap (copied_up r from (offsets xs)) (let z : i ≡ 32 = omega arith in z)
-
 module _ (c : Control) {a b : List ℕ} where
   pub image-links : length c.smallbins ≡ 32 → length c.treebins ≡ 32 → c.smallmap < 2 ^ 32 → c.treemap < 2 ^ 32
       → a ≡ copied_up (c.smallmap ∷ c.treemap ∷ c.dv.0 ∷ c.dvsize ∷ c.top.0 ∷ c.topsize ∷ c.length ∷ 0 ∷ replicate 64 0) 8

@@ -2,4 +2,4 @@
 pub mod Record
 pub mod Answers
 pub mod Refusals
-pub mod RefusalLaws
+pub mod Closures

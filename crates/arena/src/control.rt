@@ -21,15 +21,12 @@ pub struct Control {
 }
 
 // 32 links, into the image from one of its words on.
-fn copy_links(r: &mut [u64; 72], from: usize, links: [ChunkOff; 32])
+fn copy_links(r: &mut [u64; 72], from: usize, links: &[ChunkOff; 32])
     requires { from + 32 ≤ 72 }
-    ensures { r.new ≡ copied_up r.old from (offsets links) 32 }
+    ensures { r.new ≡ copied_up r.old from (offsets links.now) 32 }
 {
-    let mut i: usize = 0;
-    while i < 32 {
-        let link = links[i];
+    for (i, link) in links.iter().enumerate() {
         r[from + i] = link.0;
-        i += 1;
     }
 }
 
@@ -39,10 +36,8 @@ fn links_at(r: &[u64; 72], from: usize) -> [ChunkOff; 32]
     ensures { offsets result ≡ reads r.now from 32 }
 {
     let mut links = [ChunkOff(NONE); 32];
-    let mut i: usize = 0;
-    while i < 32 {
+    for i in 0..32 {
         links[i] = ChunkOff(r[from + i]);
-        i += 1;
     }
     links
 }
@@ -58,10 +53,8 @@ pub fn image_of(c: Control) -> [u64; 72]
     r[TOP] = c.top.0;
     r[TOPSIZE] = c.topsize;
     r[LENGTH] = c.length;
-    let small = c.smallbins;
-    let trees = c.treebins;
-    copy_links(&mut r, 8, small);
-    copy_links(&mut r, 40, trees);
+    copy_links(&mut r, 8, &c.smallbins);
+    copy_links(&mut r, 40, &c.treebins);
     r
 }
 
@@ -69,13 +62,11 @@ pub fn image_of(c: Control) -> [u64; 72]
 pub fn control_of(r: &[u64; 72]) -> Control
     ensures { numbers result ≡ numbers_of r.now }
 {
-    let small = links_at(r, 8);
-    let trees = links_at(r, 40);
     Control {
         smallmap: smallmap(r),
         treemap: treemap(r),
-        smallbins: small,
-        treebins: trees,
+        smallbins: links_at(r, 8),
+        treebins: links_at(r, 40),
         dv: ChunkOff(r[DV]),
         dvsize: r[DVSIZE],
         top: ChunkOff(r[TOP]),

@@ -10,12 +10,13 @@ pub mod refusals;
 ghost use Rattle.std.specs.Prelude.{◌≡◌, ◌+◌, ◌*◌, is_ok};
 ghost use Rattle.words.specs.Logic.{pick};
 ghost use Rattle.words.specs.Edition.{wide};
-ghost use Rattle.rules.specs.Calls.{Malloc, Free, Realloc, Memalign, Usable};
+ghost use Rattle.rules.specs.Calls.{Answer, Call, Malloc, Free, Realloc, Memalign, Usable};
 ghost use Rattle.lend.specs.LendBytes.{lent, lent_from};
 ghost use Rattle.calls.specs.Record.{image, numbers_of};
 ghost use Rattle.calls.specs.ByValue.{ends, call_a, set_up_a, rebuild_says, rebuild_a};
 ghost use Rattle.arena.specs.Record.{numbers};
-ghost use Rattle.arena.specs.Answers.{block_answer, done_answer, bytes_answer};
+ghost use Rattle.arena.specs.Answers.{answer_in, block_answer, done_answer, bytes_answer};
+ghost use Rattle.arena.specs.Closures.{Makes, HandsOver};
 
 use crate::answers::{Reason, Reply};
 use crate::control::{Control, control_of, control_with, image_of};
@@ -29,6 +30,21 @@ fn hand_back<T>(answer: Result<T, Reason>, r: &[u64; 72], c: Control) -> Reply<T
 {
     let control = if answer.is_ok() { control_of(r) } else { c };
     Reply { answer, control }
+}
+
+// A call on the record's words, for a record that goes in and out by value.
+fn by_value<T, F: FnOnce(&mut [u64; 72], &mut [u64]) -> Result<T, Reason>>(
+    c: Control,
+    w: &mut [u64],
+    call: F,
+) -> Reply<T>
+    requires { F.IsAlwaysCallable call }
+    ensures { (says : T → Answer) (k : Call) → HandsOver says → Makes says F.FnOnce call k
+        → ends (answer_in says result.answer) (numbers result.control) w.new ≡ call_a wide (numbers c) w.old k }
+{
+    let mut r = image_of(c);
+    let a = call(&mut r, w);
+    hand_back(a, &r, c)
 }
 
 // Two words are written: the top's head and the foot word.
@@ -54,33 +70,25 @@ pub fn setup(w: &mut [u64]) -> Reply<()>
 pub fn malloc(c: Control, w: &mut [u64], bytes: u64) -> Reply<BlockOff>
     ensures { ends (block_answer result.answer) (numbers result.control) w.new ≡ call_a wide (numbers c) w.old (Malloc bytes) }
 {
-    let mut r = image_of(c);
-    let a = on_image::malloc(&mut r, w, bytes);
-    hand_back(a, &r, c)
+    by_value(c, w, |r, w| on_image::malloc(r, w, bytes))
 }
 
 pub fn free(c: Control, w: &mut [u64], b: BlockOff) -> Reply<()>
     ensures { ends (done_answer result.answer) (numbers result.control) w.new ≡ call_a wide (numbers c) w.old (Free b.0) }
 {
-    let mut r = image_of(c);
-    let a = on_image::free(&mut r, w, b);
-    hand_back(a, &r, c)
+    by_value(c, w, |r, w| on_image::free(r, w, b))
 }
 
 pub fn realloc(c: Control, w: &mut [u64], b: BlockOff, bytes: u64) -> Reply<BlockOff>
     ensures { ends (block_answer result.answer) (numbers result.control) w.new ≡ call_a wide (numbers c) w.old (Realloc b.0 bytes) }
 {
-    let mut r = image_of(c);
-    let a = on_image::realloc(&mut r, w, b, bytes);
-    hand_back(a, &r, c)
+    by_value(c, w, |r, w| on_image::realloc(r, w, b, bytes))
 }
 
 pub fn memalign(c: Control, w: &mut [u64], alignment: u64, bytes: u64) -> Reply<BlockOff>
     ensures { ends (block_answer result.answer) (numbers result.control) w.new ≡ call_a wide (numbers c) w.old (Memalign alignment bytes) }
 {
-    let mut r = image_of(c);
-    let a = on_image::memalign(&mut r, w, alignment, bytes);
-    hand_back(a, &r, c)
+    by_value(c, w, |r, w| on_image::memalign(r, w, alignment, bytes))
 }
 
 // The bytes of a live block that are its owner's. Neither record nor arena is changed.

@@ -21,3 +21,8 @@ whole_number (Err why) = refusal_number why
 abbrev pub handed_back : Result Control WholeRefusal → holds.Control → holds.Control
 handed_back (Ok d) c = numbers d
 handed_back (Err why) c = c
+
+-- number and record together
+pub record Whole : Type 0 where
+  pub refusal : ℕ
+  pub control : Control

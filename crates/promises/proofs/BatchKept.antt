@@ -25,7 +25,7 @@ use Rattle.calls.specs.ByValue.{call_a}
 use Rattle.calls.specs.Histories.{Box, box, Event, asks, writes, rebuilds, write_b, asked, remade_box, after, set_up_on, HeldIn}
 use Rattle.calls.proofs.Histories.{calls-held, goes, from_set_up}
 use Rattle.arena.specs.Record.{numbers}
-use Rattle.batch.specs.declared.Whole.{Whole}
+use Rattle.batch.specs.Whole.{Whole}
 use Rattle.batch.specs.BatchBytes.{Said, said, by_kind, call_at, write_at, step_at, Ran, runs, lists_fit, made, Ended, ended, ends_as, batch_a}
 use Rattle.batch.specs.BatchBytes.{alone, ends_alone, one_by_one}
 use Rattle.batch.specs.BatchBytes as code

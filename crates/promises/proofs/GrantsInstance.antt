@@ -25,8 +25,8 @@ use Rattle.calls.proofs.Histories.{calls-held}
 use Rattle.arena.specs.Answers.{answer_of}
 use Rattle.arena.specs.Record.{numbers}
 use Rattle.arena.specs.declared.control.Control as arena
-use Rattle.arena.specs.declared.answers.Answer as code
-use Rattle.arena.specs.declared.answers.Answer.TheVariants.{Refused}
+use Rattle.arena.specs.Answers as code
+use Rattle.arena.specs.Answers.{Refused}
 use Rattle.arena.specs.declared.answers.Reason.TheVariants.{BadCount}
 use Rattle.promises.specs.Promises.{says, OwnPlace, LiveAt, left, then, Serves, Resizes}
 use Rattle.promises.proofs.HistoriesKept.{held}

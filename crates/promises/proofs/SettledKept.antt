@@ -1,17 +1,17 @@
 -- NO SECOND OUTCOME: an answer and a record of the code can be read back from what they say, so two that say the same are one. Assumes
 -- nothing.
-use Rattle.std.specs.Prelude.{◌≡◌, refl, List, [], ◌∷◌, ℕ}
+use Rattle.std.specs.Prelude.{◌≡◌, refl, List, [], ◌∷◌, ℕ, Result, Ok, Err, ⊤}
 use Rattle.std.proofs.Common.{sym, ◌∙◌, ap}
 use Rattle.words.specs.Edition.{wide}
 use Rattle.rules.specs.Calls as rules
 use Rattle.holds.specs.Holds as holds
+use Rattle.chunk.specs.declared.access.BlockOff.{BlockOff}
 use Rattle.chunk.specs.declared.access.ChunkOff.{ChunkOff}
 use Rattle.calls.specs.ByValue.{Ends, ends, call_a, set_up_a}
 use Rattle.arena.specs.Answers.{reason_of, answer_of}
 use Rattle.arena.specs.Record.{offsets, numbers}
 use Rattle.arena.specs.declared.control.Control.{Control}
-use Rattle.arena.specs.declared.answers.Answer.{Answer}
-use Rattle.arena.specs.declared.answers.Answer.TheVariants.{Granted, Done, Bytes, Refused}
+use Rattle.arena.specs.Answers.{Answer, Granted, Done, Bytes, Refused, block_answer, done_answer, bytes_answer}
 use Rattle.arena.specs.declared.answers.Reason.{Reason}
 use Rattle.arena.specs.declared.answers.Reason.TheVariants.{BadCount, Unsound, BadAlignment, TooMany, NotLive, NoRoom}
 use Rattle.promises.specs.Promises.{Settled}
@@ -45,6 +45,47 @@ answer_back (Granted b) = refl
 answer_back Done = refl
 answer_back (Bytes n) = refl
 answer_back (Refused why) = ap Refused (reason_back why)
+
+-- ---- the calls' results: two of one call that say the same are one
+
+abbrev block : rules.Answer → Result BlockOff Reason
+block (rules.granted off) = Ok record { 0 = off }
+block rules.done = Err NoRoom
+block (rules.bytes n) = Err NoRoom
+block (rules.refused why) = Err (reason why)
+
+block_back : (x : Result BlockOff Reason) → block (block_answer x) ≡ x
+block_back (Ok b) = refl
+block_back (Err why) = ap Err (reason_back why)
+
+abbrev finish : rules.Answer → Result ⊤ Reason
+finish (rules.granted off) = Err NoRoom
+finish rules.done = Ok tt
+finish (rules.bytes n) = Err NoRoom
+finish (rules.refused why) = Err (reason why)
+
+finish_back : (x : Result ⊤ Reason) → finish (done_answer x) ≡ x
+finish_back (Ok x) = refl
+finish_back (Err why) = ap Err (reason_back why)
+
+abbrev count : rules.Answer → Result ℕ Reason
+count (rules.granted off) = Err NoRoom
+count rules.done = Err NoRoom
+count (rules.bytes n) = Ok n
+count (rules.refused why) = Err (reason why)
+
+count_back : (x : Result ℕ Reason) → count (bytes_answer x) ≡ x
+count_back (Ok n) = refl
+count_back (Err why) = ap Err (reason_back why)
+
+pub one_block : (x x' : Result BlockOff Reason) → block_answer x ≡ block_answer x' → x ≡ x'
+one_block x x' q = sym (block_back x) ∙ ap block q ∙ block_back x'
+
+pub one_done : (x x' : Result ⊤ Reason) → done_answer x ≡ done_answer x' → x ≡ x'
+one_done x x' q = sym (finish_back x) ∙ ap finish q ∙ finish_back x'
+
+pub one_bytes : (x x' : Result ℕ Reason) → bytes_answer x ≡ bytes_answer x' → x ≡ x'
+one_bytes x x' q = sym (count_back x) ∙ ap count q ∙ count_back x'
 
 -- ---- records
 

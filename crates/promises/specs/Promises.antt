@@ -28,7 +28,7 @@ use Rattle.calls.specs.InUse.{Ledger}
 use Rattle.calls.specs.Kept.{Unmoved, Unwritten}
 use Rattle.arena.specs.Answers.{answer_of}
 use Rattle.arena.specs.Record.{numbers}
-use Rattle.arena.specs.declared.answers.Answer as code
+use Rattle.arena.specs.Answers as code
 use Rattle.arena.specs.declared.control.Control as arena
 
 -- ---- what a call says: its answer, and document 01's number of its refusal, 0 where it is not refused

@@ -20,10 +20,10 @@ use Rattle.calls.specs.ByValue.{ends, call_a, rebuild_a}
 use Rattle.calls.specs.Histories.{Box, box, Event, asks, remade_box, after, answers, heap_after, set_up_on}
 use Rattle.arena.specs.Answers.{answer_of}
 use Rattle.arena.specs.Record.{numbers}
-use Rattle.arena.specs.declared.answers.Answer as code
+use Rattle.arena.specs.Answers as code
 use Rattle.arena.specs.declared.control.Control as arena
 use Rattle.batch.specs.BatchBytes.{ended, batch_a}
-use Rattle.batch.specs.declared.Whole.{Whole}
+use Rattle.batch.specs.Whole.{Whole}
 use Rattle.promises.specs.Promises.{says, Allowed, LiveAt, then, Serves, Agree}
 
 -- ---- (xiii) rebuild after a lost record: start is the arena's address modulo 4,096, cs its chunks in address order without the top, ts

@@ -9,15 +9,12 @@ ghost use Rattle.rules.specs.Calls.{is_in, alignments};
 pub fn too_many(words: usize, bytes: u64) -> bool
     ensures { result ≡ ltb (W wide * words) bytes }
 {
-    (words as u64) < bytes / 8 + (bytes % 8 + 7) / 8
+    (words as u64) < bytes.div_ceil(8)
 }
 
 // Row 3: 32, 64, .. 4,096.
 pub fn alignment_ok(alignment: u64) -> bool
     ensures { result ≡ is_in alignment (alignments wide) }
 {
-    match alignment {
-        32 | 64 | 128 | 256 | 512 | 1024 | 2048 | 4096 => true,
-        _ => false,
-    }
+    matches!(alignment, 32 | 64 | 128 | 256 | 512 | 1024 | 2048 | 4096)
 }

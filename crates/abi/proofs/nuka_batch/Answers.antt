@@ -13,7 +13,7 @@ tell-requires c = lent_2 _ _ c.lent_ok.ensures c.if-not-lent_ok.false
 pub returns-then-r-ne0 : goal.returns-then-r-ne0
 returns-then-r-ne0 c =
     batch_odd _ _ _ _ _ c.lent_ok.ensures c.if-not-lent_ok.false c.image_in-r.ensures _ c.if-r-ne0.true c.odd_record.ensures
-    c.tell.ensures.value c.tell.ensures.out
+    c.tell.ensures.number c.tell.ensures.out
 
 pub copy_out-requires : goal.copy_out-requires
 copy_out-requires c = lent_72 _ _ c.lent_ok.ensures c.if-not-lent_ok.false
@@ -24,4 +24,4 @@ tell_count-requires c = lent_2 _ _ c.lent_ok.ensures c.if-not-lent_ok.false
 pub returns : goal.returns
 returns c =
     batch_ran _ _ _ _ _ c.lent_ok.ensures c.if-not-lent_ok.false c.image_in-r.ensures _ _ _ _ c.if-r-ne0.false
-    c.batch_on_image-n.ensures c.copy_out.ensures c.tell_count.ensures
+    c.batch_on_image-whole.ensures c.copy_out.ensures c.tell_count.ensures.number c.tell_count.ensures.out

@@ -11,9 +11,6 @@ hand_out-requires c = record {
 }
 
 pub returns : goal.returns
-returns c = rebuild_said _ _ _
-    c.lent_ok.ensures _
-    c.if-not-lent_ok.false _
-    _ _ c.rebuild-x.ensures
-    c.image_of.ensures c.hand_out.ensures.value
-    c.hand_out.ensures.rec c.hand_out.ensures.out
+returns c =
+    rebuild_said _ _ _ c.lent_ok.ensures _ c.if-not-lent_ok.false _ _ _ c.rebuild-x.ensures c.image_of-r.ensures
+    c.hand_out.ensures.number c.hand_out.ensures.rec c.hand_out.ensures.out

@@ -12,5 +12,5 @@ hand_out-requires c = record {
 
 pub returns : goal.returns
 returns c =
-    setup-said _ _ _ c.lent_ok.ensures c.if-not-lent_ok.false _ _ _ c.setup-x.ensures c.image_of.ensures c.hand_out.ensures.value
-    c.hand_out.ensures.rec c.hand_out.ensures.out
+    setup-said _ _ _ c.lent_ok.ensures c.if-not-lent_ok.false _ _ _ c.setup-x.ensures c.image_of-r.ensures
+    c.hand_out.ensures.number c.hand_out.ensures.rec c.hand_out.ensures.out

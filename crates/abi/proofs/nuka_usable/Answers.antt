@@ -13,7 +13,7 @@ tell-requires c = lent_2 _ _ c.lent_ok.ensures c.if-not-lent_ok.false
 pub returns-then-r-ne0 : goal.returns-then-r-ne0
 returns-then-r-ne0 c =
     call_odd _ _ _ _ c.lent_ok.ensures c.if-not-lent_ok.false c.image_in-r.ensures _ c.if-r-ne0.true c.odd_record.ensures
-    c.tell.ensures.value c.tell.ensures.out
+    c.tell.ensures.number c.tell.ensures.out
 
 pub tell-requires-2 : goal.tell-requires-2
 tell-requires-2 c = lent_2 _ _ c.lent_ok.ensures c.if-not-lent_ok.false
@@ -21,4 +21,4 @@ tell-requires-2 c = lent_2 _ _ c.lent_ok.ensures c.if-not-lent_ok.false
 pub returns : goal.returns
 returns c =
     usable_said _ _ _ _ c.lent_ok.ensures c.if-not-lent_ok.false c.image_in-r.ensures _ c.if-r-ne0.false c.usable.ensures
-    c.tell-2.ensures.value c.tell-2.ensures.out
+    c.tell-2.ensures.number c.tell-2.ensures.out

@@ -1,6 +1,5 @@
-use Rattle.arena.proofs.CallsCode.{laws}
-use borrow.Author.Rules.{rules}
+use Rattle.std.proofs.Common.{refl, rules}
 use Rattle.arena.proofs.malloc.Goals as goal
 
 pub returns : goal.returns
-returns c = search (laws, rules)
+returns c = c.by_value.ensures _ _ (λ x d r. refl) (λ r w r' w' a p. search rules)

@@ -1,6 +1,6 @@
 use Rattle.std.proofs.Common.{sym, ◌∙◌}
 use Rattle.std.proofs.lemmas.Result.{err_from_is_err_and}
-use Rattle.arena.specs.RefusalLaws.{stop, go}
+use Rattle.arena.proofs.RefusalLaws.{stop, go}
 use Rattle.arena.proofs.OnImageCode.{freeing, free_rows}
 use Rattle.arena.proofs.on_image.free.Goals as goal
 

@@ -2,7 +2,7 @@ use Rattle.std.proofs.Common.{sym, ◌∙◌}
 use Rattle.std.proofs.lemmas.Result.{err_from_is_err_and}
 use Rattle.words.specs.Edition.{wide}
 use Rattle.malloc.specs.MallocBytes.{malloc_b}
-use Rattle.arena.specs.RefusalLaws.{stop, go, counted, granting}
+use Rattle.arena.proofs.RefusalLaws.{stop, go, counted, granting}
 use Rattle.arena.proofs.OnImageCode.{malloc_rows}
 use Rattle.arena.proofs.on_image.malloc.Goals as goal
 

@@ -2,7 +2,7 @@ use Rattle.std.proofs.Common.{sym, ◌∙◌}
 use Rattle.std.proofs.lemmas.Result.{err_from_is_err_and}
 use Rattle.words.specs.Edition.{wide}
 use Rattle.memalign.specs.MemalignBytes.{memalign_b}
-use Rattle.arena.specs.RefusalLaws.{stop, go, counted, granting}
+use Rattle.arena.proofs.RefusalLaws.{stop, go, counted, granting}
 use Rattle.arena.proofs.OnImageCode.{memalign_rows}
 use Rattle.arena.proofs.on_image.memalign.Goals as goal
 

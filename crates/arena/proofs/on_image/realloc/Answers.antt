@@ -3,7 +3,7 @@ use Rattle.std.proofs.lemmas.Result.{err_from_is_err_and}
 use Rattle.words.specs.Edition.{wide}
 use Rattle.realloc.specs.ReallocBytes.{realloc_b}
 use Rattle.calls.specs.CallBytes.{chunk_at}
-use Rattle.arena.specs.RefusalLaws.{stop, go, counted, granting}
+use Rattle.arena.proofs.RefusalLaws.{stop, go, counted, granting}
 use Rattle.arena.proofs.OnImageCode.{realloc_rows}
 use Rattle.arena.proofs.on_image.realloc.Goals as goal
 

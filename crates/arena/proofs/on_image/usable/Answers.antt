@@ -2,7 +2,7 @@ use Rattle.std.proofs.Common.{sym, ap, ◌∙◌}
 use Rattle.std.proofs.lemmas.Result.{err_from_is_err_and}
 use Rattle.rules.specs.Calls.{bytes}
 use Rattle.calls.specs.CallBytes.{told}
-use Rattle.arena.specs.RefusalLaws.{stop, go}
+use Rattle.arena.proofs.RefusalLaws.{stop, go}
 use Rattle.arena.proofs.OnImageCode.{usable_rows}
 use Rattle.arena.proofs.on_image.usable.Goals as goal
 
