@@ -75,11 +75,8 @@ impl Player {
     fn play(&mut self, entry: Entry) {
         if let Entry::SetUp { words, .. } = entry {
             self.call = 0;
-            self.arena = if words % 65536 <= 8192 {
-                (words % 65536) as usize
-            } else {
-                0
-            };
+            let n = (words % 65536) as usize;
+            self.arena = if n <= 8192 { n } else { 0 };
         }
         if self.arena < 16 {
             self.tally.note(false);
