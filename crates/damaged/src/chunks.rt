@@ -1,220 +1,150 @@
 // Damages to the word count, the tiling, the top, the maps and the spare chunk.
-use crate::judge::{put_record, put_word, say_state, tell, try_record, try_word};
-use crate::states::{D, FRESH, M, fresh, make_on_128};
+use crate::bench::{Bench, Damage};
+use crate::heap::Place::{Record, Word};
+use crate::heap::{Heap, SMALLBINS, TREEBINS, set_up};
 use chunk::access::NONE;
+use chunk::image::{DV, DVSIZE, LENGTH, SMALLMAP, TOP, TOPSIZE, TREEMAP};
 use sound::sound;
 use std::io;
 
 // Everything but the count is as set-up leaves it.
-fn fresh_is_sound(r: &mut [u64; 72], w: &mut [u64], n: usize) -> bool {
-    if n <= w.len() {
-        fresh(r, &mut w[0..n], 8 * (n as u64 % 65536));
-        sound(r, &w[0..n])
-    } else {
-        false
+fn set_up_is_sound(words: &mut [u64], n: usize) -> bool {
+    if n > words.len() {
+        return false;
     }
+    let mut record = [0; 72];
+    let arena = &mut words[..n];
+    set_up(&mut record, arena);
+    sound(&record, arena)
 }
 
-fn try_count(
-    rt: &impl Print,
-    r: &mut [u64; 72],
-    w: &mut [u64],
-    j: &mut [u64; 40],
-    bad: usize,
-    good: usize,
-    name: &[u8],
-) -> io::Result<()> {
-    let refused = !fresh_is_sound(r, w, bad);
-    let accepted = fresh_is_sound(r, w, good);
-    tell(rt, j, name, refused, accepted)
+pub fn counts(rt: &impl Print, bench: &mut Bench) -> io::Result<()> {
+    let mut words = [0; 8194];
+    for (bad, good, name) in [
+        (14, 16, "14 words"),
+        (17, 16, "17 words"),
+        (127, 128, "127 words"),
+        (8194, 8192, "8194 words"),
+    ] {
+        let refused = !set_up_is_sound(&mut words, bad);
+        let accepted = set_up_is_sound(&mut words, good);
+        bench.judge(rt, name, refused, accepted)?;
+    }
+    Ok(())
 }
 
-pub fn counts(
-    rt: &impl Print,
-    r: &mut [u64; 72],
-    w: &mut [u64],
-    j: &mut [u64; 40],
-) -> io::Result<()> {
-    try_count(rt, r, w, j, 14, 16, b"14 words")?;
-    try_count(rt, r, w, j, 17, 16, b"17 words")?;
-    try_count(rt, r, w, j, 127, 128, b"127 words")?;
-    try_count(rt, r, w, j, 8194, 8192, b"8194 words")
-}
+const FRESH: &[Damage] = &[
+    ("the record's length is less", &[(Record(LENGTH), 1008)]),
+    ("the record's length is more", &[(Record(LENGTH), 1040)]),
+    ("PINUSE of a top that is first is clear", &[(Word(1), 944)]),
+    ("no foot word", &[(Word(119), 0)]),
+];
 
-fn of_fresh(
-    rt: &impl Print,
-    r: &mut [u64; 72],
-    w: &mut [u64; 512],
-    j: &mut [u64; 40],
-) -> io::Result<()> {
-    make_on_128(r, w, FRESH);
-    say_state(rt, r, w, j, 128, b"fresh")?;
-    try_record(rt, r, w, j, 6, 1008, b"the record's length is less")?;
-    try_record(rt, r, w, j, 6, 1040, b"the record's length is more")?;
-    try_word(
-        rt,
-        r,
-        w,
-        j,
-        1,
-        944,
-        b"PINUSE of a top that is first is clear",
-    )?;
-    try_word(rt, r, w, j, 119, 0, b"no foot word")
-}
+const HEADS: &[Damage] = &[
+    ("FLAG4 in a used chunk's head", &[(Word(1), 39)]),
+    ("FLAG4 in the top's head", &[(Word(73), 373)]),
+    ("the first PINUSE is clear", &[(Word(1), 34)]),
+    ("PINUSE is clear behind a used chunk", &[(Word(5), 50)]),
+    (
+        "the top's PINUSE is clear behind a used chunk",
+        &[(Word(73), 368)],
+    ),
+    ("the top's CINUSE is set", &[(Word(73), 371)]),
+    ("a used chunk's CINUSE is clear", &[(Word(11), 241)]),
+    ("the foot word is 96", &[(Word(119), 96)]),
+    ("a chunk reaches into the top", &[(Word(41), 275)]),
+    ("a chunk ends before the next", &[(Word(41), 243)]),
+    ("a size is 0", &[(Word(11), 3)]),
+    ("a head of all bits", &[(Word(11), NONE)]),
+];
 
-fn heads(
-    rt: &impl Print,
-    r: &mut [u64; 72],
-    w: &mut [u64; 512],
-    j: &mut [u64; 40],
-) -> io::Result<()> {
-    try_word(rt, r, w, j, 1, 39, b"FLAG4 in a used chunk's head")?;
-    try_word(rt, r, w, j, 73, 373, b"FLAG4 in the top's head")?;
-    try_word(rt, r, w, j, 1, 34, b"the first PINUSE is clear")?;
-    try_word(rt, r, w, j, 5, 50, b"PINUSE is clear behind a used chunk")?;
-    try_word(
-        rt,
-        r,
-        w,
-        j,
-        73,
-        368,
-        b"the top's PINUSE is clear behind a used chunk",
-    )?;
-    try_word(rt, r, w, j, 73, 371, b"the top's CINUSE is set")?;
-    try_word(rt, r, w, j, 11, 241, b"a used chunk's CINUSE is clear")?;
-    try_word(rt, r, w, j, 119, 96, b"the foot word is 96")?;
-    try_word(rt, r, w, j, 41, 275, b"a chunk reaches into the top")?;
-    try_word(rt, r, w, j, 41, 243, b"a chunk ends before the next")?;
-    try_word(rt, r, w, j, 11, 3, b"a size is 0")?;
-    try_word(rt, r, w, j, 11, NONE, b"a head of all bits")
-}
+const SIZES: &[Damage] = &[
+    (
+        "two sizes of 40 in the place of 32 and 48",
+        &[(Word(1), 43), (Word(6), 43)],
+    ),
+    (
+        "two sizes of 16 in the place of 32",
+        &[(Word(1), 19), (Word(3), 19)],
+    ),
+];
 
-fn sizes(
-    rt: &impl Print,
-    r: &mut [u64; 72],
-    w: &mut [u64; 512],
-    j: &mut [u64; 40],
-) -> io::Result<()> {
-    put_word(w, j, 1, 43);
-    try_word(
-        rt,
-        r,
-        w,
-        j,
-        6,
-        43,
-        b"two sizes of 40 in the place of 32 and 48",
-    )?;
-    put_word(w, j, 1, 19);
-    try_word(rt, r, w, j, 3, 19, b"two sizes of 16 in the place of 32")
-}
+const TOPS: &[Damage] = &[
+    ("the record's top is wrong", &[(Record(TOP), 560)]),
+    ("the record's top is none", &[(Record(TOP), NONE)]),
+    ("the record's topsize is wrong", &[(Record(TOPSIZE), 352)]),
+    (
+        "the record's top is the chunk before the top",
+        &[(Record(TOP), 320), (Record(TOPSIZE), 624)],
+    ),
+    (
+        "16 bytes between the last chunk and the top",
+        &[(Record(TOP), 592), (Record(TOPSIZE), 352), (Word(75), 353)],
+    ),
+];
 
-fn tops(
-    rt: &impl Print,
-    r: &mut [u64; 72],
-    w: &mut [u64; 512],
-    j: &mut [u64; 40],
-) -> io::Result<()> {
-    try_record(rt, r, w, j, 4, 560, b"the record's top is wrong")?;
-    try_record(rt, r, w, j, 4, NONE, b"the record's top is none")?;
-    try_record(rt, r, w, j, 5, 352, b"the record's topsize is wrong")?;
-    put_record(r, j, 4, 320);
-    try_record(
-        rt,
-        r,
-        w,
-        j,
-        5,
-        624,
-        b"the record's top is the chunk before the top",
-    )?;
-    put_record(r, j, 4, 592);
-    put_record(r, j, 5, 352);
-    try_word(
-        rt,
-        r,
-        w,
-        j,
-        75,
-        353,
-        b"16 bytes between the last chunk and the top",
-    )
-}
+const EMPTY_PLACES: &[Damage] = &[
+    ("dvsize without a dv", &[(Record(DVSIZE), 32)]),
+    (
+        "dv is a used chunk",
+        &[(Record(DV), 32), (Record(DVSIZE), 48)],
+    ),
+    ("dv is the top", &[(Record(DV), 576), (Record(DVSIZE), 368)]),
+    (
+        "bit 4 is set, small bin 4 is empty",
+        &[(Record(SMALLMAP), 16)],
+    ),
+    (
+        "bit 32 of the small map is set",
+        &[(Record(SMALLMAP), 1 << 32)],
+    ),
+    ("bit 0 is set, tree bin 0 is empty", &[(Record(TREEMAP), 1)]),
+    (
+        "bit 32 of the tree map is set",
+        &[(Record(TREEMAP), 1 << 32)],
+    ),
+    (
+        "an empty small bin's head is not none",
+        &[(Record(SMALLBINS + 4), 0)],
+    ),
+    (
+        "an empty tree bin's root is not none",
+        &[(Record(TREEBINS), 80)],
+    ),
+];
 
-fn empty_places(
-    rt: &impl Print,
-    r: &mut [u64; 72],
-    w: &mut [u64; 512],
-    j: &mut [u64; 40],
-) -> io::Result<()> {
-    try_record(rt, r, w, j, 3, 32, b"dvsize without a dv")?;
-    put_record(r, j, 2, 32);
-    try_record(rt, r, w, j, 3, 48, b"dv is a used chunk")?;
-    put_record(r, j, 2, 576);
-    try_record(rt, r, w, j, 3, 368, b"dv is the top")?;
-    try_record(rt, r, w, j, 0, 16, b"bit 4 is set, small bin 4 is empty")?;
-    try_record(
-        rt,
-        r,
-        w,
-        j,
-        0,
-        4294967296,
-        b"bit 32 of the small map is set",
-    )?;
-    try_record(rt, r, w, j, 1, 1, b"bit 0 is set, tree bin 0 is empty")?;
-    try_record(rt, r, w, j, 1, 4294967296, b"bit 32 of the tree map is set")?;
-    try_record(rt, r, w, j, 12, 0, b"an empty small bin's head is not none")?;
-    try_record(rt, r, w, j, 40, 80, b"an empty tree bin's root is not none")
-}
+const SPARE: &[Damage] = &[
+    ("dv's size is wrong", &[(Record(DVSIZE), 192)]),
+    ("dv is the chunk before it", &[(Record(DV), 80)]),
+    ("dv is no multiple of 16", &[(Record(DV), 120)]),
+    ("dv is past the arena", &[(Record(DV), 65648)]),
+    ("dv's foot is wrong", &[(Word(40), 192)]),
+    ("PINUSE is set behind dv", &[(Word(41), 259)]),
+    ("dv's PINUSE is clear", &[(Word(15), 208)]),
+    ("dv's CINUSE is set", &[(Word(15), 211)]),
+    (
+        "a free chunk in no place",
+        &[(Record(DV), NONE), (Record(DVSIZE), 0)],
+    ),
+    (
+        "dv is in its small bin too",
+        &[
+            (Record(SMALLMAP), 1 << 26),
+            (Record(SMALLBINS + 26), 112),
+            (Word(16), NONE),
+            (Word(17), NONE),
+        ],
+    ),
+];
 
-fn of_m(
-    rt: &impl Print,
-    r: &mut [u64; 72],
-    w: &mut [u64; 512],
-    j: &mut [u64; 40],
-) -> io::Result<()> {
-    make_on_128(r, w, M);
-    say_state(rt, r, w, j, 128, b"M")?;
-    heads(rt, r, w, j)?;
-    sizes(rt, r, w, j)?;
-    tops(rt, r, w, j)?;
-    empty_places(rt, r, w, j)
-}
-
-fn of_d(
-    rt: &impl Print,
-    r: &mut [u64; 72],
-    w: &mut [u64; 512],
-    j: &mut [u64; 40],
-) -> io::Result<()> {
-    make_on_128(r, w, D);
-    say_state(rt, r, w, j, 128, b"D")?;
-    try_record(rt, r, w, j, 3, 192, b"dv's size is wrong")?;
-    try_record(rt, r, w, j, 2, 80, b"dv is the chunk before it")?;
-    try_record(rt, r, w, j, 2, 120, b"dv is no multiple of 16")?;
-    try_record(rt, r, w, j, 2, 65648, b"dv is past the arena")?;
-    try_word(rt, r, w, j, 40, 192, b"dv's foot is wrong")?;
-    try_word(rt, r, w, j, 41, 259, b"PINUSE is set behind dv")?;
-    try_word(rt, r, w, j, 15, 208, b"dv's PINUSE is clear")?;
-    try_word(rt, r, w, j, 15, 211, b"dv's CINUSE is set")?;
-    put_record(r, j, 2, NONE);
-    try_record(rt, r, w, j, 3, 0, b"a free chunk in no place")?;
-    put_record(r, j, 0, 67108864);
-    put_record(r, j, 34, 112);
-    put_word(w, j, 16, NONE);
-    try_word(rt, r, w, j, 17, NONE, b"dv is in its small bin too")
-}
-
-pub fn tilings(
-    rt: &impl Print,
-    r: &mut [u64; 72],
-    w: &mut [u64; 512],
-    j: &mut [u64; 40],
-) -> io::Result<()> {
-    of_fresh(rt, r, w, j)?;
-    of_m(rt, r, w, j)?;
-    of_d(rt, r, w, j)
+pub fn tilings(rt: &impl Print, bench: &mut Bench) -> io::Result<()> {
+    bench.take(rt, Heap::fresh(128), "fresh")?;
+    bench.damages(rt, FRESH)?;
+    bench.take(rt, Heap::four_used(), "M")?;
+    bench.damages(rt, HEADS)?;
+    bench.damages(rt, SIZES)?;
+    bench.damages(rt, TOPS)?;
+    bench.damages(rt, EMPTY_PLACES)?;
+    bench.take(rt, Heap::one_spare(), "D")?;
+    bench.damages(rt, SPARE)
 }

@@ -1,252 +1,159 @@
 // Document 01's "A morning on 128 words", case by case, on the calls themselves: what each answers, and where top and dv stand.
 #![tactic(auto)]
 
+mod heap;
 mod say;
 
-use arena::control::Control;
-use chunk::access::BlockOff;
+use crate::heap::Heap;
 use std::io;
 
-// ---- the calls, each with its line
-
-fn setup(rt: &impl Print, w: &mut [u64]) -> io::Result<Control> {
-    let x = arena::setup(w);
-    let a = x.answer;
-    say::text(rt, b"set-up on ")?;
-    say::number(rt, w.len() as u64)?;
-    say::text(rt, b" words")?;
-    say::answer(rt, a)?;
-    Ok(x.control)
-}
-
-fn malloc(rt: &impl Print, c: Control, w: &mut [u64], bytes: u64) -> io::Result<Control> {
-    let x = arena::malloc(c, w, bytes);
-    let a = x.answer;
-    say::text(rt, b"malloc ")?;
-    say::number(rt, bytes)?;
-    say::answer(rt, a)?;
-    Ok(x.control)
-}
-
-fn free(rt: &impl Print, c: Control, w: &mut [u64], block: u64) -> io::Result<Control> {
-    let x = arena::free(c, w, BlockOff(block));
-    let a = x.answer;
-    say::text(rt, b"free ")?;
-    say::number(rt, block)?;
-    say::answer(rt, a)?;
-    Ok(x.control)
-}
-
-fn realloc(
-    rt: &impl Print,
-    c: Control,
-    w: &mut [u64],
-    block: u64,
-    bytes: u64,
-) -> io::Result<Control> {
-    let x = arena::realloc(c, w, BlockOff(block), bytes);
-    let a = x.answer;
-    say::text(rt, b"realloc ")?;
-    say::number(rt, block)?;
-    say::text(rt, b" to ")?;
-    say::number(rt, bytes)?;
-    say::answer(rt, a)?;
-    Ok(x.control)
-}
-
-fn memalign(
-    rt: &impl Print,
-    c: Control,
-    w: &mut [u64],
-    alignment: u64,
-    bytes: u64,
-) -> io::Result<Control> {
-    let x = arena::memalign(c, w, alignment, bytes);
-    let a = x.answer;
-    say::text(rt, b"memalign ")?;
-    say::number(rt, alignment)?;
-    say::text(rt, b", ")?;
-    say::number(rt, bytes)?;
-    say::answer(rt, a)?;
-    Ok(x.control)
-}
-
-fn usable(rt: &impl Print, c: Control, w: &[u64], block: u64) -> io::Result<()> {
-    let a = arena::usable(c, w, BlockOff(block));
-    say::text(rt, b"usable ")?;
-    say::number(rt, block)?;
-    say::answer(rt, a)
-}
-
-fn fresh_malloc(rt: &impl Print, w: &mut [u64], bytes: u64) -> io::Result<Control> {
-    malloc(rt, setup(rt, w)?, w, bytes)
-}
-
-fn two_mallocs(
-    rt: &impl Print,
-    c: Control,
-    w: &mut [u64],
-    first: u64,
-    second: u64,
-) -> io::Result<Control> {
-    malloc(rt, malloc(rt, c, w, first)?, w, second)
-}
-
-fn free_malloc(
-    rt: &impl Print,
-    c: Control,
-    w: &mut [u64],
-    block: u64,
-    bytes: u64,
-) -> io::Result<Control> {
-    malloc(rt, free(rt, c, w, block)?, w, bytes)
-}
-
-fn two_frees(
-    rt: &impl Print,
-    c: Control,
-    w: &mut [u64],
-    first: u64,
-    second: u64,
-) -> io::Result<Control> {
-    free(rt, free(rt, c, w, first)?, w, second)
-}
-
 // State M: four blocks, the top at 576.
-fn state_m(rt: &impl Print, w: &mut [u64]) -> io::Result<Control> {
-    let c = two_mallocs(rt, setup(rt, w)?, w, 24, 25)?;
-    two_mallocs(rt, c, w, 232, 233)
+fn state_m<'a>(rt: &impl Print, words: &'a mut [u64]) -> io::Result<Heap<'a>> {
+    let mut heap = Heap::set_up(rt, words)?;
+    for bytes in [24, 25, 232, 233] {
+        heap.malloc(rt, bytes)?;
+    }
+    Ok(heap)
 }
 
 // State D: block 96 is 32 bytes long, the spare chunk behind it 208.
-fn state_d(rt: &impl Print, w: &mut [u64]) -> io::Result<Control> {
-    free_malloc(rt, state_m(rt, w)?, w, 96, 24)
+fn state_d<'a>(rt: &impl Print, words: &'a mut [u64]) -> io::Result<Heap<'a>> {
+    let mut heap = state_m(rt, words)?;
+    heap.free(rt, 96)?;
+    heap.malloc(rt, 24)?;
+    Ok(heap)
+}
+
+fn fresh_malloc<'a>(rt: &impl Print, words: &'a mut [u64], bytes: u64) -> io::Result<Heap<'a>> {
+    let mut heap = Heap::set_up(rt, words)?;
+    heap.malloc(rt, bytes)?;
+    Ok(heap)
 }
 
 // ---- the cases that are not starred
 
 // A resize up to what the top can give, and one byte past it.
-fn resized(rt: &impl Print, w: &mut [u64], bytes: u64) -> io::Result<()> {
-    let c = fresh_malloc(rt, w, 24)?;
-    say::record(rt, realloc(rt, c, w, 16, bytes)?)
+fn resized(rt: &impl Print, words: &mut [u64], bytes: u64) -> io::Result<()> {
+    let mut heap = fresh_malloc(rt, words, 24)?;
+    heap.realloc(rt, 16, bytes)?;
+    heap.say(rt)
 }
 
 // What is given back is not live.
-fn given_back_twice(rt: &impl Print, w: &mut [u64]) -> io::Result<()> {
-    let c = free(rt, state_m(rt, w)?, w, 16)?;
-    usable(rt, c, w, 16)?;
-    usable(rt, c, w, 48)?;
-    say::record(rt, free(rt, c, w, 16)?)
+fn given_back_twice(rt: &impl Print, words: &mut [u64]) -> io::Result<()> {
+    let mut heap = state_m(rt, words)?;
+    heap.free(rt, 16)?;
+    heap.usable(rt, 16)?;
+    heap.usable(rt, 48)?;
+    heap.free(rt, 16)?;
+    heap.say(rt)
 }
 
 // On 16 words the top has 48 bytes.
-fn sixteen_words(rt: &impl Print, w: &mut [u64]) -> io::Result<()> {
-    let c = fresh_malloc(rt, w, 24)?;
-    malloc(rt, c, w, 0)?;
-    fresh_malloc(rt, w, 25)?;
+fn sixteen_words(rt: &impl Print) -> io::Result<()> {
+    let mut words = [0u64; 16];
+    fresh_malloc(rt, &mut words, 24)?.malloc(rt, 0)?;
+    fresh_malloc(rt, &mut words, 25)?;
     Ok(())
 }
 
-fn on_words(rt: &impl Print, w: &mut [u64], n: usize) -> io::Result<()> {
-    if n <= w.len() {
-        say::record(rt, setup(rt, &mut w[0..n])?)?;
-    }
-    Ok(())
+fn set_up(rt: &impl Print, words: &mut [u64]) -> io::Result<()> {
+    Heap::set_up(rt, words)?.say(rt)
+}
+
+// Counts that no arena has.
+fn bad_counts(rt: &impl Print) -> io::Result<()> {
+    set_up(rt, &mut [0; 14])?;
+    set_up(rt, &mut [0; 17])?;
+    set_up(rt, &mut [0; 8194])
+}
+
+fn not_starred(rt: &impl Print, words: &mut [u64]) -> io::Result<()> {
+    resized(rt, words, 920)?;
+    resized(rt, words, 921)?;
+    given_back_twice(rt, words)?;
+    sixteen_words(rt)?;
+    bad_counts(rt)
 }
 
 // ---- the starred cases, which are proved, once more
 
-fn served_from_bins(rt: &impl Print, w: &mut [u64]) -> io::Result<()> {
-    let m = state_m(rt, w)?;
-    say::record(rt, m)?;
-    free_malloc(rt, m, w, 16, 1)?;
-    Ok(())
+fn served_from_bins(rt: &impl Print, words: &mut [u64]) -> io::Result<()> {
+    let mut heap = state_m(rt, words)?;
+    heap.say(rt)?;
+    heap.free(rt, 16)?;
+    heap.malloc(rt, 1)
 }
 
-fn served_from_dv(rt: &impl Print, w: &mut [u64]) -> io::Result<()> {
-    let d = state_d(rt, w)?;
-    say::record(rt, d)?;
-    say::record(rt, two_mallocs(rt, d, w, 100, 88)?)
+fn served_from_dv(rt: &impl Print, words: &mut [u64]) -> io::Result<()> {
+    let mut heap = state_d(rt, words)?;
+    heap.say(rt)?;
+    heap.malloc(rt, 100)?;
+    heap.malloc(rt, 88)?;
+    heap.say(rt)
 }
 
-fn grown_or_moved(rt: &impl Print, w: &mut [u64], bytes: u64) -> io::Result<()> {
-    let d = state_d(rt, w)?;
-    say::record(rt, realloc(rt, d, w, 96, bytes)?)
+fn grown_or_moved(rt: &impl Print, words: &mut [u64], bytes: u64) -> io::Result<()> {
+    let mut heap = state_d(rt, words)?;
+    heap.realloc(rt, 96, bytes)?;
+    heap.say(rt)
 }
 
-fn fresh_memalign(rt: &impl Print, w: &mut [u64], alignment: u64) -> io::Result<()> {
-    let c = setup(rt, w)?;
-    say::record(rt, memalign(rt, c, w, alignment, 24)?)
+fn fresh_memalign(rt: &impl Print, words: &mut [u64], alignment: u64) -> io::Result<()> {
+    let mut heap = Heap::set_up(rt, words)?;
+    heap.memalign(rt, alignment, 24)?;
+    heap.say(rt)
 }
 
-fn lead_of_32(rt: &impl Print, w: &mut [u64]) -> io::Result<()> {
-    let c = fresh_malloc(rt, w, 72)?;
-    say::record(rt, memalign(rt, c, w, 64, 24)?)
+fn lead_of_32(rt: &impl Print, words: &mut [u64]) -> io::Result<()> {
+    let mut heap = fresh_malloc(rt, words, 72)?;
+    heap.memalign(rt, 64, 24)?;
+    heap.say(rt)
 }
 
-fn all_given_back(rt: &impl Print, w: &mut [u64]) -> io::Result<()> {
-    let c = two_frees(rt, state_m(rt, w)?, w, 336, 16)?;
-    say::record(rt, two_frees(rt, c, w, 96, 48)?)
+fn all_given_back(rt: &impl Print, words: &mut [u64]) -> io::Result<()> {
+    let mut heap = state_m(rt, words)?;
+    for block in [336, 16, 96, 48] {
+        heap.free(rt, block)?;
+    }
+    heap.say(rt)
+}
+
+fn starred(rt: &impl Print, words: &mut [u64]) -> io::Result<()> {
+    served_from_bins(rt, words)?;
+    served_from_dv(rt, words)?;
+    grown_or_moved(rt, words, 232)?;
+    grown_or_moved(rt, words, 233)?;
+    fresh_malloc(rt, words, 920)?.say(rt)?;
+    fresh_malloc(rt, words, 921)?;
+    fresh_memalign(rt, words, 64)?;
+    fresh_memalign(rt, words, 32)?;
+    lead_of_32(rt, words)?;
+    all_given_back(rt, words)
 }
 
 // ---- document 02, (xiii): the record is lost
 
-fn rebuild(rt: &impl Print, w: &mut [u64], start: u64) -> io::Result<Control> {
-    let x = arena::rebuild(w, start);
-    let a = x.answer;
-    say::text(rt, b"rebuild, start ")?;
-    say::number(rt, start)?;
-    say::answer(rt, a)?;
-    Ok(x.control)
-}
-
 // State D: the spare chunk goes into its bin, and the bin serves.
-fn record_lost(rt: &impl Print, w: &mut [u64]) -> io::Result<()> {
-    state_d(rt, w)?;
-    let c = rebuild(rt, w, 0)?;
-    say::record(rt, c)?;
-    say::record(rt, two_mallocs(rt, c, w, 100, 88)?)
+fn record_lost(rt: &impl Print, words: &mut [u64]) -> io::Result<()> {
+    state_d(rt, words)?;
+    let mut heap = Heap::rebuild(rt, words, 0)?;
+    heap.say(rt)?;
+    heap.malloc(rt, 100)?;
+    heap.malloc(rt, 88)?;
+    heap.say(rt)
 }
 
 // Without its foot word it is no arena.
-fn foot_word_lost(rt: &impl Print, w: &mut [u64; 128]) -> io::Result<()> {
-    w[119] = 81;
-    say::record(rt, rebuild(rt, w, 0)?)
-}
-
-fn lost(rt: &impl Print, w: &mut [u64; 128]) -> io::Result<()> {
-    record_lost(rt, w)?;
-    foot_word_lost(rt, w)
-}
-
-fn not_starred(rt: &impl Print, w: &mut [u64; 128]) -> io::Result<()> {
-    resized(rt, w, 920)?;
-    resized(rt, w, 921)?;
-    given_back_twice(rt, w)?;
-    let mut small = [0u64; 16];
-    sixteen_words(rt, &mut small)?;
-    let mut large = [0u64; 8194];
-    on_words(rt, &mut large, 14)?;
-    on_words(rt, &mut large, 17)?;
-    on_words(rt, &mut large, 8194)
-}
-
-fn starred(rt: &impl Print, w: &mut [u64; 128]) -> io::Result<()> {
-    served_from_bins(rt, w)?;
-    served_from_dv(rt, w)?;
-    grown_or_moved(rt, w, 232)?;
-    grown_or_moved(rt, w, 233)?;
-    say::record(rt, fresh_malloc(rt, w, 920)?)?;
-    fresh_malloc(rt, w, 921)?;
-    fresh_memalign(rt, w, 64)?;
-    fresh_memalign(rt, w, 32)?;
-    lead_of_32(rt, w)?;
-    all_given_back(rt, w)
+fn foot_word_lost(rt: &impl Print, words: &mut [u64; 128]) -> io::Result<()> {
+    words[119] = 81;
+    Heap::rebuild(rt, words, 0)?.say(rt)
 }
 
 fn main(rt: HostRuntime) -> io::Result<()> {
-    let mut w = [0u64; 128];
-    not_starred(&rt, &mut w)?;
-    starred(&rt, &mut w)?;
-    lost(&rt, &mut w)
+    let mut words = [0u64; 128];
+    not_starred(&rt, &mut words)?;
+    starred(&rt, &mut words)?;
+    record_lost(&rt, &mut words)?;
+    foot_word_lost(&rt, &mut words)
 }

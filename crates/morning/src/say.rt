@@ -1,71 +1,69 @@
-// What a call answered, and where the record stands, on standard output.
-use arena::answers::{Answer, Reason};
+// The lines on standard output: a call with its answer, and where the record stands.
+use arena::answers::Reason;
 use arena::control::Control;
-use chunk::access::{BlockOff, NONE};
-use std::io;
+use chunk::access::NONE;
+use std::fmt::Display;
+use std::{fmt, io};
 
-pub fn text(rt: &impl Print, s: &[u8]) -> io::Result<()> {
-    rt.write_all(s)
-}
+// A place of the record, or none.
+#[derive(Drop)]
+struct Place(u64);
 
-pub fn number(rt: &impl Print, n: u64) -> io::Result<()> {
-    rt.print(n)
-}
-
-fn not_live(rt: &impl Print, b: BlockOff) -> io::Result<()> {
-    text(rt, b"5, no live block at ")?;
-    number(rt, b.0)
-}
-
-fn reason(rt: &impl Print, why: Reason) -> io::Result<()> {
-    match why {
-        Reason::BadCount => text(rt, b"1, the word count is not allowed"),
-        Reason::Unsound => text(rt, b"2, not sound"),
-        Reason::BadAlignment => text(rt, b"3, no such alignment"),
-        Reason::TooMany => text(rt, b"4, more bytes than the arena has"),
-        Reason::NotLive(b) => not_live(rt, b),
-        Reason::NoRoom => text(rt, b"6, no room"),
+impl Display for Place {
+    fn fmt<W: fmt::Write>(&self, f: &mut fmt::Formatter<W>) -> fmt::Result {
+        let at = self.0;
+        if at == NONE {
+            f.write_str("none")
+        } else {
+            write!(f, "{at}")
+        }
     }
 }
 
-fn refused(rt: &impl Print, why: Reason) -> io::Result<()> {
-    text(rt, b"refused: ")?;
-    reason(rt, why)
-}
+#[derive(Drop)]
+pub struct Bytes(pub u64);
 
-fn usable(rt: &impl Print, n: u64) -> io::Result<()> {
-    number(rt, n)?;
-    text(rt, b" bytes")
-}
-
-// The end of a call's line.
-pub fn answer(rt: &impl Print, a: Answer) -> io::Result<()> {
-    text(rt, b" -> ")?;
-    match a {
-        Answer::Granted(b) => number(rt, b.0)?,
-        Answer::Done => text(rt, b"done")?,
-        Answer::Bytes(n) => usable(rt, n)?,
-        Answer::Refused(why) => refused(rt, why)?,
+impl Display for Bytes {
+    fn fmt<W: fmt::Write>(&self, f: &mut fmt::Formatter<W>) -> fmt::Result {
+        write!(f, "{} bytes", self.0)
     }
-    text(rt, b"\n")
 }
 
-fn place(rt: &impl Print, n: u64) -> io::Result<()> {
-    if n == NONE {
-        text(rt, b"none")
-    } else {
-        number(rt, n)
+// When the box says no, in words, behind document 01's number.
+#[derive(Drop)]
+struct Refusal(Reason);
+
+impl Display for Refusal {
+    fn fmt<W: fmt::Write>(&self, f: &mut fmt::Formatter<W>) -> fmt::Result {
+        let why = self.0;
+        write!(f, "refused: {}, ", u64::from(why))?;
+        match why {
+            Reason::BadCount => f.write_str("the word count is not allowed"),
+            Reason::Unsound => f.write_str("not sound"),
+            Reason::BadAlignment => f.write_str("no such alignment"),
+            Reason::TooMany => f.write_str("more bytes than the arena has"),
+            Reason::NotLive(b) => write!(f, "no live block at {}", b.0),
+            Reason::NoRoom => f.write_str("no room"),
+        }
+    }
+}
+
+// The line of a call: what it was asked, and its answer.
+pub fn line<T: Display + Drop>(
+    rt: &impl Print,
+    call: &impl Display,
+    answer: Result<T, Reason>,
+) -> io::Result<()> {
+    match answer {
+        Ok(value) => println!(rt; "{call} -> {value}"),
+        Err(why) => println!(rt; "{call} -> {}", Refusal(why)),
     }
 }
 
 pub fn record(rt: &impl Print, c: Control) -> io::Result<()> {
-    text(rt, b"    top ")?;
-    place(rt, c.top.0)?;
-    text(rt, b", topsize ")?;
-    number(rt, c.topsize)?;
-    text(rt, b", dv ")?;
-    place(rt, c.dv.0)?;
-    text(rt, b", dvsize ")?;
-    number(rt, c.dvsize)?;
-    text(rt, b"\n")
+    let (top, dv) = (Place(c.top.0), Place(c.dv.0));
+    println!(rt;
+        "    top {top}, topsize {}, dv {dv}, dvsize {}",
+        c.topsize, c.dvsize
+    )
 }

@@ -1,3 +1,2 @@
--- What the code leaves at each return, as laws.
-pub mod LinesCode
+-- The laws of the walk over the chunks.
 pub mod SumsCode

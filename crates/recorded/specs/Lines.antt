@@ -1,41 +1,101 @@
--- A line of the record, as ten words: eight numbers, which of them is being read (word 8), what the line is so far (word 9: 0 empty, 1 a comment,
--- 2 numbers, 3 none of these). Assumes nothing.
-use Rattle.std.specs.Prelude.{Bool, not, ◌&&◌, ◌||◌, List, ℕ, ◌+◌, eqb, ltb, get_or, set}
+-- A line of the record: eight numbers, which of them is being read, and what the line is so far. Assumes nothing.
+use Rattle.std.specs.Prelude.{Bool, true, false, not, ◌&&◌, ◌||◌, List, get_or, set, Option, Some, None}
+use Rattle.std.specs.Prelude.{ℕ, ◌+◌, ◌-◌, ◌*◌, ◌%◌, eqb, ltb}
 use Rattle.words.specs.Logic.{pick}
 use Rattle.words.specs.Edition.{wide}
 use Rattle.chunk.specs.Bytes.{wrap}
+use Rattle.recorded.specs.declared.tally.Tally.{Tally}
+use Rattle.recorded.specs.declared.text.Kind.{Kind}
+use Rattle.recorded.specs.declared.text.Kind.TheVariants.{Empty, Comment, Numbers, Odd}
+use Rattle.recorded.specs.declared.text.Line.{Line}
+use Rattle.recorded.specs.Tallies.{counted}
 
--- which number is being read, and what the line is so far
-abbrev pub number_of : List ℕ → ℕ
-number_of l = get_or l 8 0
+-- the line has numbers, and nothing else so far; it has a byte that is none of a line of numbers
+abbrev pub has_numbers : Kind → Bool
+has_numbers Empty = false
+has_numbers Comment = false
+has_numbers Numbers = true
+has_numbers Odd = false
 
-abbrev pub kind_of : List ℕ → ℕ
-kind_of l = get_or l 9 0
+abbrev pub has_odd_byte : Kind → Bool
+has_odd_byte Empty = false
+has_odd_byte Comment = false
+has_odd_byte Numbers = false
+has_odd_byte Odd = true
 
 -- the byte ends a line of eight numbers
-unfoldable pub line_read : List ℕ → ℕ → Bool
-line_read l b = eqb b 10 && eqb (kind_of l) 2 && eqb (number_of l) 7
+abbrev pub line_read : Line → ℕ → Bool
+line_read l b = eqb b 10 && has_numbers l.kind && eqb l.at 7
+
+-- the line's numbers, where the byte ends a line of eight
+abbrev pub numbers_read : Line → ℕ → Option (List ℕ)
+numbers_read l b = pick (line_read l b) (Some l.numbers) None
 
 -- the line is neither eight numbers nor a comment nor empty
-unfoldable pub line_odd : List ℕ → Bool
-line_odd l = eqb (kind_of l) 3 || eqb (kind_of l) 2 && not (eqb (number_of l) 7)
+abbrev pub line_odd : Line → Bool
+line_odd l = has_odd_byte l.kind || has_numbers l.kind && not (eqb l.at 7)
 
 -- number k is being read, and is 0 so far
-unfoldable pub begun : List ℕ → ℕ → List ℕ
-begun l k = pick (ltb k 8) (set (set l 8 k) k 0) (set l 8 k)
+abbrev pub begun : Line → ℕ → Line
+begun l k = record { numbers = pick (ltb k 8) (set l.numbers k 0) l.numbers; at = k; kind = l.kind }
 
--- word 7 of the tally counts the odd lines
-unfoldable pub counted : Bool → List ℕ → List ℕ
-counted odd t = pick odd (set t 7 (wrap wide (get_or t 7 0 + 1))) t
+-- the line has said nothing so far
+abbrev pub emptied : Line → Line
+emptied l = record { numbers = l.numbers; at = l.at; kind = Empty }
+
+-- ---- what a byte inside a line leaves
+
+-- a line of numbers, where the line was empty
+abbrev pub numbers_of : Kind → Kind
+numbers_of Empty = Numbers
+numbers_of Comment = Comment
+numbers_of Numbers = Numbers
+numbers_of Odd = Odd
+
+abbrev pub with_number_byte : Line → Line
+with_number_byte l = record { numbers = l.numbers; at = l.at; kind = numbers_of l.kind }
+
+-- an odd line, where the line is no comment
+abbrev pub odd_of : Kind → Kind
+odd_of Empty = Odd
+odd_of Comment = Comment
+odd_of Numbers = Odd
+odd_of Odd = Odd
+
+abbrev pub with_odd_byte : Line → Line
+with_odd_byte l = record { numbers = l.numbers; at = l.at; kind = odd_of l.kind }
+
+-- one digit more in the number that is being read; a number keeps its last twelve
+abbrev pub with_digit : Line → ℕ → Line
+with_digit l d =
+    record {
+      numbers = pick (ltb l.at 8) (set l.numbers l.at (get_or l.numbers l.at 0 % 100000000000 * 10 + d)) l.numbers;
+      at = l.at;
+      kind = l.kind;
+    }
+
+abbrev pub commented : Line → Line
+commented l = record { numbers = l.numbers; at = l.at; kind = Comment }
+
+-- a #, a space, a digit, or none of these
+abbrev pub with_byte : Line → ℕ → Line
+with_byte l b =
+    pick (eqb b 35) (commented l)
+    (pick (eqb b 32) (begun (with_number_byte l) (wrap wide (l.at + 1)))
+    (pick (ltb b 48 || ltb 57 b) (with_odd_byte l) (with_digit (with_number_byte l) (b - 48))))
+
+-- a line that ends is as it was
+abbrev pub after_byte : Line → ℕ → Line
+after_byte l b = pick (eqb b 10) l (with_byte l b)
 
 -- ---- what a byte that may end the line leaves: the line and the tally
 
 pub record Ended : Type 0 where
-  pub line : List ℕ
-  pub tally : List ℕ
+  pub line : Line
+  pub tally : Tally
 
-abbrev pub ended : List ℕ → List ℕ → Ended
+abbrev pub ended : Line → Tally → Ended
 ended l t = record { line = l; tally = t }
 
-unfoldable pub end_line : List ℕ → ℕ → List ℕ → Ended
-end_line l b t = pick (eqb b 10) (ended (begun (set l 9 0) 0) (counted (line_odd l) t)) (ended l t)
+abbrev pub end_line : Line → ℕ → Tally → Ended
+end_line l b t = pick (eqb b 10) (ended (begun (emptied l) 0) (counted (line_odd l) t)) (ended l t)

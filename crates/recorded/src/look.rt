@@ -1,6 +1,9 @@
 // A look at the heap: how many chunks lie below the top, and two sums, over heads, feet and links, and over the owners' words.
+#![tactic(auto, using(crate::proofs::SumsCode::laws))]
+
 ghost use Rattle.std.specs.Prelude.{◌≡◌, ◌-◌};
-ghost use Rattle.recorded.specs.Sums.{chunks_below, add_to, add_words, add_links, add_chunk, add_top, add_owned, heap_sum, owned_sum};
+ghost use Rattle.recorded.specs.Sums.{Makes, walked, walk, chunks_below, heap_sum, owned_sum};
+ghost use Rattle.recorded.specs.Sums.{add_to, add_words, add_links, add_chunk, add_top, add_owned};
 
 use chunk::access::{ChunkOff, get, plus_offset, sum};
 use chunk::heads::{cinuse, size};
@@ -8,6 +11,24 @@ use chunk::image::{DV, TOP, TOPSIZE};
 
 // The bound of every walk.
 const TURNS: u32 = 4096;
+
+// Over the chunks below the top, in address order: `each` makes the next number of the number so far and of a chunk. Where the walk ends,
+// and the last number.
+fn walk<F: Fn(u64, ChunkOff) -> u64>(r: &[u64; 72], w: &[u64], each: F) -> (ChunkOff, u64)
+    requires { F.IsAlwaysCallable each }
+    ensures { (h : _) → Makes (F.post each) h → walked result.0.0 result.1 ≡ walk h r.now w.now }
+{
+    let mut c = ChunkOff(0);
+    let mut n: u64 = 0;
+    for _ in 0..TURNS {
+        if c.0 == r[TOP] {
+            return (c, n);
+        }
+        n = each(n, c);
+        c = plus_offset(c, size(w, c));
+    }
+    (c, n)
+}
 
 fn add(s: u64, x: u64) -> u64
     ensures { result ≡ add_to s x }
@@ -18,23 +39,19 @@ fn add(s: u64, x: u64) -> u64
 fn add_words(w: &[u64], c: ChunkOff, first: u64, last: u64, s: u64) -> u64
     ensures { result ≡ add_words w.now c.0 (last - first) first s }
 {
-    let mut all = s;
-    for k in first..last {
-        all = add(all, get(w, c, (k % 65536) as u32));
-    }
-    all
+    (first..last).fold(s, |all, k| add(all, get(w, c, (k % 65536) as u32)))
 }
 
 fn add_links(r: &[u64; 72], w: &[u64], c: ChunkOff, n: u64, s: u64) -> u64
     ensures { result ≡ add_links r.now w.now c.0 n s }
 {
     if c.0 == r[DV] {
-        return s;
+        s
+    } else if n < 256 {
+        add_words(w, c, 2, 4, s)
+    } else {
+        add_words(w, c, 2, 8, s)
     }
-    if n < 256 {
-        return add_words(w, c, 2, 4, s);
-    }
-    add_words(w, c, 2, 8, s)
 }
 
 fn add_chunk(r: &[u64; 72], w: &[u64], c: ChunkOff, n: u64, s: u64) -> u64
@@ -48,23 +65,6 @@ fn add_chunk(r: &[u64; 72], w: &[u64], c: ChunkOff, n: u64, s: u64) -> u64
     add(links, get(w, plus_offset(c, n), 0))
 }
 
-pub fn chunks_below(r: &[u64; 72], w: &[u64]) -> u64
-    ensures { result ≡ chunks_below r.now w.now }
-{
-    let mut c = ChunkOff(0);
-    let mut n: u64 = 0;
-    let mut left = TURNS;
-    while left > 0 {
-        if c.0 == r[TOP] {
-            return n;
-        }
-        c = plus_offset(c, size(w, c));
-        n = sum(n, 1);
-        left -= 1;
-    }
-    n
-}
-
 fn add_top(r: &[u64; 72], w: &[u64], c: ChunkOff, s: u64) -> u64
     ensures { result ≡ add_top r.now w.now c.0 s }
 {
@@ -72,47 +72,33 @@ fn add_top(r: &[u64; 72], w: &[u64], c: ChunkOff, s: u64) -> u64
     add(top, get(w, plus_offset(c, r[TOPSIZE]), 1))
 }
 
-pub fn heap_sum(r: &[u64; 72], w: &[u64]) -> u64
-    ensures { result ≡ heap_sum r.now w.now }
-{
-    let mut c = ChunkOff(0);
-    let mut s: u64 = 0;
-    let mut left = TURNS;
-    while left > 0 {
-        if c.0 == r[TOP] {
-            return add_top(r, w, c, s);
-        }
-        let n = size(w, c);
-        s = add_chunk(r, w, c, n, s);
-        c = plus_offset(c, n);
-        left -= 1;
-    }
-    add_top(r, w, c, s)
-}
-
 fn add_owned(w: &[u64], c: ChunkOff, n: u64, s: u64) -> u64
     ensures { result ≡ add_owned w.now c.0 n s }
 {
     if cinuse(w, c) {
-        return add_words(w, c, 2, n / 8 + 1, s);
+        add_words(w, c, 2, n / 8 + 1, s)
+    } else {
+        s
     }
-    s
+}
+
+pub fn chunks_below(r: &[u64; 72], w: &[u64]) -> u64
+    ensures { result ≡ chunks_below r.now w.now }
+{
+    let (_, n) = walk(r, w, |n, _| sum(n, 1));
+    n
+}
+
+pub fn heap_sum(r: &[u64; 72], w: &[u64]) -> u64
+    ensures { result ≡ heap_sum r.now w.now }
+{
+    let (end, s) = walk(r, w, |s, c| add_chunk(r, w, c, size(w, c), s));
+    add_top(r, w, end, s)
 }
 
 pub fn owned_sum(r: &[u64; 72], w: &[u64]) -> u64
     ensures { result ≡ owned_sum r.now w.now }
 {
-    let mut c = ChunkOff(0);
-    let mut s: u64 = 0;
-    let mut left = TURNS;
-    while left > 0 {
-        if c.0 == r[TOP] {
-            return s;
-        }
-        let n = size(w, c);
-        s = add_owned(w, c, n, s);
-        c = plus_offset(c, n);
-        left -= 1;
-    }
+    let (_, s) = walk(r, w, |s, c| add_owned(w, c, size(w, c), s));
     s
 }

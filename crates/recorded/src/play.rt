@@ -1,46 +1,16 @@
-// One line of the record: a call, or a look at the heap, held against the crate's numbers.
+// The lines of the record, played: each is a call, or a look at the heap, held against the crate's numbers.
+ghost use Rattle.std.specs.Prelude.{◌≤◌};
+
+use crate::entry::{Call, Entry, Told};
 use crate::look::{chunks_below, heap_sum, owned_sum};
-use arena::answers::{Answer, Reason};
+use crate::tally::Tally;
+use crate::text::Line;
+use arena::answers::Reason;
 use arena::control::image_of;
 use arena::on_image;
 use chunk::access::{BlockOff, ChunkOff, NONE, difference, from_mem, put, sum};
 use chunk::heads::size;
 use chunk::image::{DV, DVSIZE, TOPSIZE};
-
-// The tally: the arena's words, the call's number in its history, and the counts.
-const WORDS: usize = 0;
-
-const CALL: usize = 1;
-
-pub const CALLS: usize = 2;
-
-pub const GRANTS: usize = 3;
-
-pub const REFUSALS: usize = 4;
-
-pub const LOOKS: usize = 5;
-
-pub const DIFFER: usize = 6;
-
-pub const NOT_READ: usize = 7;
-
-fn note(t: &mut [u64; 8], same: bool) {
-    if !same {
-        t[DIFFER] = sum(t[DIFFER], 1);
-    }
-}
-
-fn copy(r: &mut [u64; 72], image: [u64; 72]) {
-    for i in 0..72 {
-        r[i] = image[i];
-    }
-}
-
-fn set_up(r: &mut [u64; 72], w: &mut [u64]) {
-    let x = arena::setup(w);
-    let c = x.control;
-    copy(r, image_of(c));
-}
 
 // Word k of the block becomes call * 8192 + k, from word held on.
 fn mark(w: &mut [u64], c: ChunkOff, held: u64, call: u64) {
@@ -55,17 +25,6 @@ fn mark(w: &mut [u64], c: ChunkOff, held: u64, call: u64) {
     }
 }
 
-fn granted(w: &mut [u64], t: &mut [u64; 8], f: &[u64; 10], b: BlockOff, held: u64) {
-    t[GRANTS] = sum(t[GRANTS], 1);
-    note(t, f[3] == 0 && f[4] == b.0);
-    mark(w, from_mem(b), held, t[CALL]);
-}
-
-fn refused(t: &mut [u64; 8], f: &[u64; 10], n: u64) {
-    t[REFUSALS] = sum(t[REFUSALS], 1);
-    note(t, f[3] == n);
-}
-
 // The refusals that the crate has too; no other may be met.
 fn number(why: Reason) -> u64 {
     match why {
@@ -75,83 +34,145 @@ fn number(why: Reason) -> u64 {
     }
 }
 
-fn answered(w: &mut [u64], t: &mut [u64; 8], f: &[u64; 10], a: Answer, held: u64) {
-    match a {
-        Answer::Granted(b) => granted(w, t, f, b, held),
-        Answer::Done => note(t, f[3] == 0),
-        Answer::Bytes(_) => note(t, false),
-        Answer::Refused(why) => refused(t, f, number(why)),
+// The heap, with how many of the words are the arena's, the call's number in its history, the line that is being read, and the counts.
+#[derive(Drop)]
+pub struct Player {
+    record: [u64; 72],
+    words: [u64; 8192],
+    arena: usize,
+    call: u64,
+    line: Line,
+    tally: Tally,
+    ghost arena_fits: { arena ≤ 8192 },
+}
+
+impl Player {
+    pub fn new() -> Player {
+        Player {
+            record: [0; 72],
+            words: [0; 8192],
+            arena: 0,
+            call: 0,
+            line: Line::new(),
+            tally: Tally::default(),
+        }
     }
-}
 
-fn call(f: &[u64; 10], r: &mut [u64; 72], w: &mut [u64], t: &mut [u64; 8]) {
-    let b = BlockOff(f[1]);
-    if f[0] == 1 {
-        let a = on_image::malloc(r, w, f[1]);
-        answered(w, t, f, a, 0);
-    } else if f[0] == 2 {
-        let a = on_image::free(r, w, b);
-        answered(w, t, f, a, 0);
-    } else if f[0] == 3 {
-        let held = difference(size(w, from_mem(b)) / 8, 1) % 65536;
-        let a = on_image::realloc(r, w, b, f[2]);
-        answered(w, t, f, a, held);
-    } else {
-        let a = on_image::memalign(r, w, f[1], f[2]);
-        answered(w, t, f, a, 0);
+    pub fn tally(&self) -> &Tally {
+        &self.tally
     }
-}
 
-fn spare_is(r: &[u64; 72], f: &[u64; 10]) -> bool {
-    if r[DV] == NONE {
-        f[6] == 0 && f[7] == 0
-    } else {
-        f[6] == r[DV] && f[7] == r[DVSIZE]
+    pub fn read(&mut self, bytes: &[u8]) {
+        for &b in bytes {
+            if let Some(numbers) = self.line.read_byte(b) {
+                self.play(Entry::from(numbers));
+            }
+            self.line.end_line(b, &mut self.tally);
+        }
     }
-}
 
-fn look(f: &[u64; 10], r: &[u64; 72], w: &[u64], t: &mut [u64; 8]) {
-    t[LOOKS] = sum(t[LOOKS], 1);
-    note(t, f[1] == chunks_below(r, w));
-    note(t, f[2] == heap_sum(r, w));
-    note(t, f[4] == owned_sum(r, w));
-}
-
-fn ask(f: &[u64; 10], r: &mut [u64; 72], w: &mut [u64], t: &mut [u64; 8]) {
-    t[CALL] = sum(t[CALL], 1);
-    t[CALLS] = sum(t[CALLS], 1);
-    call(f, r, w, t);
-}
-
-fn step(f: &[u64; 10], r: &mut [u64; 72], w: &mut [u64], t: &mut [u64; 8]) {
-    if f[0] == 0 {
-        set_up(r, w);
-        note(t, f[5] == r[TOPSIZE]);
-    } else if f[0] == 5 {
-        look(f, r, w, t);
-    } else {
-        ask(f, r, w, t);
-        note(t, f[5] == r[TOPSIZE]);
-        note(t, spare_is(r, f));
+    // Too few words are no arena, and then nothing is the crate's; nor are more than there are.
+    fn play(&mut self, entry: Entry) {
+        if let Entry::SetUp { words, .. } = entry {
+            self.call = 0;
+            let n = (words % 65536) as usize;
+            self.arena = if n <= 8192 { n } else { 0 };
+        }
+        if self.arena < 16 {
+            self.tally.note(false);
+            return;
+        }
+        match entry {
+            Entry::SetUp { topsize, .. } => self.set_up(topsize),
+            Entry::Call(call, told) => self.ask(call, told),
+            Entry::Look {
+                chunks,
+                heap,
+                owned,
+            } => self.look(chunks, heap, owned),
+        }
     }
-}
 
-// The arena is the first n words.
-fn step_in(f: &[u64; 10], r: &mut [u64; 72], w: &mut [u64], t: &mut [u64; 8], n: usize) {
-    if n < 16 {
-        note(t, false);
-    } else if n <= w.len() {
-        step(f, r, &mut w[0..n], t);
-    } else {
-        note(t, false);
+    fn set_up(&mut self, topsize: u64) {
+        let words = &mut self.words[..];
+        let reply = arena::setup(&mut words[..self.arena]);
+        self.record = image_of(reply.control);
+        self.tally.note(topsize == self.record[TOPSIZE]);
     }
-}
 
-pub fn play(f: &[u64; 10], r: &mut [u64; 72], w: &mut [u64], t: &mut [u64; 8]) {
-    if f[0] == 0 {
-        t[CALL] = 0;
-        t[WORDS] = f[1];
+    fn look(&mut self, chunks: u64, heap: u64, owned: u64) {
+        let words = &self.words[..self.arena];
+        self.tally.looks = sum(self.tally.looks, 1);
+        self.tally.note(chunks == chunks_below(&self.record, words));
+        self.tally.note(heap == heap_sum(&self.record, words));
+        self.tally.note(owned == owned_sum(&self.record, words));
     }
-    let n = (t[WORDS] % 65536) as usize;
-    step_in(f, r, w, t, n);
+
+    fn ask(&mut self, call: Call, told: Told) {
+        self.call = sum(self.call, 1);
+        self.tally.calls = sum(self.tally.calls, 1);
+        self.call(call, told);
+        self.tally.note(told.topsize == self.record[TOPSIZE]);
+        let same = self.spare_is(told);
+        self.tally.note(same);
+    }
+
+    fn call(&mut self, call: Call, told: Told) {
+        let words = &mut self.words[..];
+        let w = &mut words[..self.arena];
+        let r = &mut self.record;
+        match call {
+            Call::Malloc { bytes } => {
+                let answer = on_image::malloc(r, w, bytes);
+                self.block(answer, told, 0);
+            }
+            Call::Free { block } => {
+                let answer = on_image::free(r, w, block);
+                self.answered(answer, told);
+            }
+            Call::Realloc { block, bytes } => {
+                let held = difference(size(w, from_mem(block)) / 8, 1) % 65536;
+                let answer = on_image::realloc(r, w, block, bytes);
+                self.block(answer, told, held);
+            }
+            Call::Memalign { alignment, bytes } => {
+                let answer = on_image::memalign(r, w, alignment, bytes);
+                self.block(answer, told, 0);
+            }
+        }
+    }
+
+    fn block(&mut self, answer: Result<BlockOff, Reason>, told: Told, held: u64) {
+        match answer {
+            Ok(block) => self.granted(block, told, held),
+            Err(why) => self.refused(why, told),
+        }
+    }
+
+    fn answered(&mut self, answer: Result<(), Reason>, told: Told) {
+        match answer {
+            Ok(()) => self.tally.note(told.refusal == 0),
+            Err(why) => self.refused(why, told),
+        }
+    }
+
+    fn granted(&mut self, block: BlockOff, told: Told, held: u64) {
+        self.tally.grants = sum(self.tally.grants, 1);
+        self.tally.note(told.refusal == 0 && told.offset == block.0);
+        let words = &mut self.words[..];
+        mark(&mut words[..self.arena], from_mem(block), held, self.call);
+    }
+
+    fn refused(&mut self, why: Reason, told: Told) {
+        self.tally.refusals = sum(self.tally.refusals, 1);
+        self.tally.note(told.refusal == number(why));
+    }
+
+    fn spare_is(&self, told: Told) -> bool {
+        if self.record[DV] == NONE {
+            told.dv == 0 && told.dvsize == 0
+        } else {
+            told.dv == self.record[DV] && told.dvsize == self.record[DVSIZE]
+        }
+    }
 }

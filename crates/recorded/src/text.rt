@@ -1,112 +1,125 @@
 // Lines of eight decimal numbers, a byte at a time, one space between two. A line that has a # says nothing, nor does an empty one.
-// Words 0 to 7 are the line's numbers.
-ghost use Rattle.std.specs.Prelude.{◌≡◌};
-ghost use Rattle.recorded.specs.Lines.{line_read, line_odd, begun, counted, ended, end_line};
+ghost use Rattle.std.specs.Prelude.{◌≡◌, ◌<◌};
+ghost use Rattle.recorded.specs.Lines.{numbers_read, line_odd, begun, ended, end_line};
+ghost use Rattle.recorded.specs.Lines.{with_number_byte, with_odd_byte, with_digit, with_byte, after_byte};
 
-use crate::play::NOT_READ;
+use crate::tally::Tally;
 use chunk::access::sum;
 
-// Which number is being read.
-const AT: usize = 8;
-
-// What the line is so far.
-const LINE: usize = 9;
-
-const EMPTY: u64 = 0;
-
-const COMMENT: u64 = 1;
-
-const NUMBERS: u64 = 2;
-
-const ODD: u64 = 3;
-
-// Number k is being read, and is 0 so far.
-fn begin(l: &mut [u64; 10], k: u64)
-    ensures { l.new ≡ begun l.old k }
-{
-    l[AT] = k;
-    if k < 8 {
-        l[k as usize] = 0;
-    }
+// What a line is so far.
+#[derive(Clone, Copy, PartialEq, Eq)]
+pub enum Kind {
+    Empty,
+    Comment,
+    Numbers,
+    Odd,
 }
 
-fn read_digit(l: &mut [u64; 10], b: u8) {
-    let k = l[AT];
-    if k < 8 {
-        let old = l[k as usize] % 100000000000;
-        l[k as usize] = sum(old * 10, (b % 16) as u64);
-    }
+// The line's numbers, which of them is being read, and what the line is so far.
+#[derive(Drop)]
+pub struct Line {
+    pub numbers: [u64; 8],
+    pub at: u64,
+    pub kind: Kind,
 }
 
-// A byte that is none of a line of numbers.
-fn odd_byte(l: &mut [u64; 10]) {
-    if l[LINE] != COMMENT {
-        l[LINE] = ODD;
-    }
-}
-
-fn number_byte(l: &mut [u64; 10]) {
-    if l[LINE] == EMPTY {
-        l[LINE] = NUMBERS;
-    }
-}
-
-// Where a line of eight numbers ends with this byte, the next line's numbers are not begun: that is `end_line`'s.
-pub fn read_byte(l: &mut [u64; 10], b: u8) -> bool
-    ensures { result ≡ line_read l.old b }
-{
-    if b == b'\n' {
-        if l[LINE] != NUMBERS {
-            return false;
+impl Line {
+    pub fn new() -> Line {
+        Line {
+            numbers: [0; 8],
+            at: 0,
+            kind: Kind::Empty,
         }
-        return l[AT] == 7;
     }
-    if b == b'#' {
-        l[LINE] = COMMENT;
-    } else if b == b' ' {
-        number_byte(l);
-        let k = sum(l[AT], 1);
-        begin(l, k);
-    } else if b < b'0' {
-        odd_byte(l);
-    } else if b > b'9' {
-        odd_byte(l);
-    } else {
-        number_byte(l);
-        read_digit(l, b);
-    }
-    false
-}
 
-// The line that ends is neither eight numbers nor a comment nor empty.
-fn is_odd(l: &[u64; 10]) -> bool
-    ensures { result ≡ line_odd l.now }
-{
-    if l[LINE] == ODD {
-        return true;
+    // Number k is being read, and is 0 so far.
+    fn begin(&mut self, k: u64)
+        ensures { self.new ≡ begun self.old k }
+    {
+        self.at = k;
+        if k < 8 {
+            self.numbers[k as usize] = 0;
+        }
     }
-    if l[LINE] != NUMBERS {
-        return false;
-    }
-    l[AT] != 7
-}
 
-// Lines that were not understood are counted, so that nothing is lost unsaid.
-fn count(t: &mut [u64; 8], odd: bool)
-    ensures { t.new ≡ counted odd t.old }
-{
-    if odd {
-        t[NOT_READ] = sum(t[NOT_READ], 1);
+    fn read_digit(&mut self, digit: u8)
+        requires { digit < 10 }
+        ensures { self.new ≡ with_digit self.old digit }
+    {
+        if self.at < 8 {
+            let k = self.at as usize;
+            self.numbers[k] = self.numbers[k] % 100000000000 * 10 + digit as u64;
+        }
     }
-}
 
-pub fn end_line(l: &mut [u64; 10], b: u8, t: &mut [u64; 8])
-    ensures { ended l.new t.new ≡ end_line l.old b t.old }
-{
-    if b == b'\n' {
-        let odd = is_odd(l);
-        count(t, odd);
-        l[LINE] = EMPTY;
-        begin(l, 0);
+    // A byte that is none of a line of numbers.
+    fn odd_byte(&mut self)
+        ensures { self.new ≡ with_odd_byte self.old }
+    {
+        if self.kind != Kind::Comment {
+            self.kind = Kind::Odd;
+        }
+    }
+
+    fn number_byte(&mut self)
+        ensures { self.new ≡ with_number_byte self.old }
+    {
+        if self.kind == Kind::Empty {
+            self.kind = Kind::Numbers;
+        }
+    }
+
+    // A byte inside a line.
+    fn add(&mut self, b: u8)
+        ensures { self.new ≡ with_byte self.old b }
+    {
+        match b {
+            b'#' => self.kind = Kind::Comment,
+            b' ' => {
+                self.number_byte();
+                self.begin(sum(self.at, 1));
+            }
+            b'0'..=b'9' => {
+                self.number_byte();
+                self.read_digit(b - b'0');
+            }
+            _ => self.odd_byte(),
+        }
+    }
+
+    // The numbers of a line of eight that ends with this byte. The next line's numbers are not begun: that is `end_line`'s.
+    pub fn read_byte(&mut self, b: u8) -> Option<[u64; 8]>
+        ensures numbers { result ≡ numbers_read self.old b }
+        ensures line { self.new ≡ after_byte self.old b }
+    {
+        if b != b'\n' {
+            self.add(b);
+            return None;
+        }
+        match self.kind {
+            Kind::Numbers if self.at == 7 => Some(self.numbers),
+            _ => None,
+        }
+    }
+
+    // The line that ends is neither eight numbers nor a comment nor empty.
+    fn is_odd(&self) -> bool
+        ensures { result ≡ line_odd self.now }
+    {
+        match self.kind {
+            Kind::Odd => true,
+            Kind::Numbers => self.at != 7,
+            Kind::Empty | Kind::Comment => false,
+        }
+    }
+
+    pub fn end_line(&mut self, b: u8, tally: &mut Tally)
+        ensures { ended self.new tally.new ≡ end_line self.old b tally.old }
+    {
+        if b == b'\n' {
+            tally.count_odd(self.is_odd());
+            self.kind = Kind::Empty;
+            self.begin(0);
+        }
     }
 }

@@ -1,15 +1,6 @@
-use Rattle.recorded.proofs.SumsCode.{laws}
-use borrow.Author.Rules.{rules}
+use Rattle.std.proofs.Common.{rules}
+use Rattle.recorded.proofs.SumsCode.{count_walked}
 use Rattle.recorded.proofs.look.chunks_below.Goals as goal
 
-pub loop-left-init : goal.loop-left-init
-loop-left-init c = search (laws, rules)
-
-pub returns-then-c-r : goal.returns-then-c-r
-returns-then-c-r c = search (laws, rules)
-
-pub loop-left-preserved : goal.loop-left-preserved
-loop-left-preserved c = search (laws, rules)
-
 pub returns : goal.returns
-returns c = search (laws, rules)
+returns c = count_walked _ _ (c.walk-n.ensures _ (λ m d x t. search rules))

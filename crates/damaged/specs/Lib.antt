@@ -1,0 +1,2 @@
+-- What the bench counts.
+pub mod Counts

@@ -1,8 +1,0 @@
-use Rattle.recorded.proofs.SumsCode.{Owns}
-use Rattle.recorded.proofs.look.owned_sum.Given as goal
-
-abbrev pub invariant-loop-left : goal.invariant-loop-left
-invariant-loop-left l = Owns l.r l.w l.c.0 l.s l.left
-
-abbrev pub decreases-loop-left : goal.decreases-loop-left
-decreases-loop-left l = l.left
