@@ -1,7 +1,8 @@
 -- One record on the words: one law for each return, what the tests and the callees have told put together as the definition says it.
 -- Assumes nothing.
-use Rattle.std.proofs.Common.{◌≡◌, ◌≢◌, ⊎_elim, ℕ, ◌<◌, ◌≤◌, Bool, true, false, not, eqb, leb, List, ◌++◌, length, take, drop, sym, refl, ap, ◌∙◌, le-ltb, lt-ltb, ne_eqb, leb-true}
+use Rattle.std.proofs.Common.{Result, Ok, Err, ◌≡◌, ◌≢◌, ⊎_elim, ℕ, ◌<◌, ◌≤◌, Bool, true, false, not, eqb, leb, List, ◌++◌, length, take, drop, sym, refl, ap, ◌∙◌, le-ltb, lt-ltb, ne_eqb, leb-true}
 use borrow.Author.Tests.{not-true, not-false}
+use Rattle.std.specs.Bool.{⊤}
 use Rattle.words.specs.Logic.{same?}
 use Rattle.words.specs.Edition.{wide}
 use Rattle.rules.specs.Calls as rules
@@ -11,11 +12,8 @@ use Rattle.decides.specs.MarksLaws.{and_right}
 use Rattle.calls.specs.CallBytes.{told, refusal, call_b}
 use Rattle.calls.specs.Record.{image}
 use Rattle.calls.specs.ByValue.{ends, set_up_a}
-use Rattle.chunk.specs.declared.access.BlockOff.{BlockOff}
-use Rattle.arena.specs.Answers.{answer_of}
+use Rattle.arena.specs.Answers.{done_answer}
 use Rattle.arena.specs.declared.answers.Reason.{Reason}
-use Rattle.arena.specs.declared.answers.Answer as Said
-use Rattle.arena.specs.declared.answers.Answer.TheVariants.{Granted, Done, Bytes, Refused}
 use Rattle.box_log.specs.declared.entry.Entry.{Entry}
 use Rattle.box_log.specs.declared.entry.Entry.TheVariants.{Setup, Malloc, Free, Realloc, Memalign, Odd}
 use Rattle.player.specs.Replayed.{offset_of}
@@ -68,32 +66,22 @@ module _ (words : ℕ) (r v : List ℕ) (n : ℕ) where
   set_up_heard a d w' l q =
       ap (λ z. begun words r v n z z.answer) q ∙ sym (rw (le-ltb (length v) n l) refl)
 
-module _ (words : ℕ) (r v : List ℕ) (n : ℕ) (a : Said.Answer) (d : Control) (w' : List ℕ) (l : n ≤ length v)
-    (q : ends (answer_of a) d w' ≡ set_up_a wide (take n v)) where
-  is_begun : (b : Said.Answer) → a ≡ b → begun words r v n (ends (answer_of b) d w') (answer_of b) ≡ set_up_of words r v n
-  is_begun b g = set_up_heard words r v n (answer_of b) d w' l (ap (λ z. ends (answer_of z) d w') (sym g) ∙ q)
+module _ (words : ℕ) (r v : List ℕ) (n : ℕ) (a : Result ⊤ Reason) (d : Control) (w' : List ℕ) (l : n ≤ length v)
+    (q : ends (done_answer a) d w' ≡ set_up_a wide (take n v)) where
+  is_begun : (b : Result ⊤ Reason) → a ≡ b → begun words r v n (ends (done_answer b) d w') (done_answer b) ≡ set_up_of words r v n
+  is_begun b g = set_up_heard words r v n (done_answer b) d w' l (ap (λ z. ends (done_answer z) d w') (sym g) ∙ q)
 
-  pub set_up_done : {m : List ℕ} {p : Played} → a ≡ Done → m ≡ image d → p ≡ shown n (answer_of a)
+  pub set_up_done : {x : ⊤} {m : List ℕ} {p : Played} → a ≡ Ok x → m ≡ image d → p ≡ shown n (done_answer a)
       → scene p m (w' ++ drop n v) ≡ set_up_of words r v n
-  set_up_done {p = p} g i s =
+  set_up_done {x} {p = p} g i s =
       ap (λ z. scene p z (w' ++ drop n v)) i
-      ∙ ap (λ z. scene z (image d) (w' ++ drop n v)) (s ∙ ap (λ z. shown n (answer_of z)) g)
-      ∙ is_begun Done g
+      ∙ ap (λ z. scene z (image d) (w' ++ drop n v)) (s ∙ ap (λ z. shown n (done_answer z)) g)
+      ∙ is_begun (Ok x) g
 
-  kept : {p : Played} (b : Said.Answer) → a ≡ b → p ≡ shown words (answer_of a)
-      → scene p r (w' ++ drop n v) ≡ scene (shown words (answer_of b)) r (w' ++ drop n v)
-  kept b g s = ap (λ z. scene z r (w' ++ drop n v)) (s ∙ ap (λ z. shown words (answer_of z)) g)
-
-  pub set_up_granted : {b : BlockOff} {p : Played} → a ≡ Granted b → p ≡ shown words (answer_of a)
+  pub set_up_refused : {why : Reason} {p : Played} → a ≡ Err why → p ≡ shown words (done_answer a)
       → scene p r (w' ++ drop n v) ≡ set_up_of words r v n
-  set_up_granted {b} g s = kept (Granted b) g s ∙ is_begun (Granted b) g
-
-  pub set_up_bytes : {k : ℕ} {p : Played} → a ≡ Bytes k → p ≡ shown words (answer_of a) → scene p r (w' ++ drop n v) ≡ set_up_of words r v n
-  set_up_bytes {k} g s = kept (Bytes k) g s ∙ is_begun (Bytes k) g
-
-  pub set_up_refused : {why : Reason} {p : Played} → a ≡ Refused why → p ≡ shown words (answer_of a)
-      → scene p r (w' ++ drop n v) ≡ set_up_of words r v n
-  set_up_refused {why} g s = kept (Refused why) g s ∙ is_begun (Refused why) g
+  set_up_refused {why} g s =
+      ap (λ z. scene z r (w' ++ drop n v)) (s ∙ ap (λ z. shown words (done_answer z)) g) ∙ is_begun (Err why) g
 
 -- ---- a record
 
@@ -137,8 +125,6 @@ pub ruleset laws = (
   call_heard,
   set_up_far,
   set_up_done,
-  set_up_granted,
-  set_up_bytes,
   set_up_refused,
   play_setup,
   play_malloc,

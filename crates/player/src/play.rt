@@ -2,11 +2,11 @@
 // it.
 ghost use Rattle.std.specs.Prelude.{◌≡◌};
 ghost use Rattle.rules.specs.Calls.{Malloc, Free, Realloc, Memalign};
-ghost use Rattle.arena.specs.Answers.{answer_of};
+ghost use Rattle.arena.specs.Answers.{block_answer, done_answer};
 ghost use Rattle.player.specs.PlayBytes.{said, shown, is_ready, scene, call_on, set_up_of, play_b};
 
-use crate::shown::{offset_of, refusal_of};
-use arena::answers::{Answer, Reason, Reply};
+use crate::shown::offset_of;
+use arena::answers::{Reason, Reply, refusal_of};
 use arena::control::image_of;
 use arena::on_image;
 use box_log::entry::Entry;
@@ -20,14 +20,25 @@ pub struct Played {
     pub offset: u64,
 }
 
-// What the line says of a call's answer.
-fn answered(words: usize, a: Answer) -> Played
-    ensures { result ≡ shown words (answer_of a) }
+// What the line says of a call that grants a block.
+fn granted(words: usize, a: Result<BlockOff, Reason>) -> Played
+    ensures { result ≡ shown words (block_answer a) }
 {
     Played {
         words,
-        refusal: refusal_of(a),
+        refusal: refusal_of(&a),
         offset: offset_of(a),
+    }
+}
+
+// And of one that is done.
+fn done(words: usize, a: Result<(), Reason>) -> Played
+    ensures { result ≡ shown words (done_answer a) }
+{
+    Played {
+        words,
+        refusal: refusal_of(&a),
+        offset: 0,
     }
 }
 
@@ -43,17 +54,15 @@ fn set_up(words: usize, r: &mut [u64; 72], w: &mut [u64], n: usize) -> Played
     ensures { scene result r.new w.new ≡ set_up_of words r.old w.old n }
 {
     if n > w.len() {
-        return answered(words, Answer::Refused(Reason::BadCount));
+        return done(words, Err(Reason::BadCount));
     }
     let Reply { answer, control } = arena::setup(&mut w[..n]);
     match answer {
-        Answer::Done => {
+        Ok(()) => {
             *r = image_of(control);
-            answered(n, answer)
+            done(n, answer)
         }
-        Answer::Granted(_) => answered(words, answer),
-        Answer::Bytes(_) => answered(words, answer),
-        Answer::Refused(_) => answered(words, answer),
+        Err(_) => done(words, answer),
     }
 }
 
@@ -68,12 +77,12 @@ pub fn play(e: Entry, words: usize, r: &mut [u64; 72], w: &mut [u64]) -> Played
             offset: 0,
         },
         Entry::Setup(n) => set_up(words, r, w, n as usize),
-        _ if !ready(words, w.len()) => answered(words, Answer::Refused(Reason::Unsound)),
-        Entry::Malloc(n) => answered(words, on_image::malloc(r, &mut w[..words], n)),
-        Entry::Free(b) => answered(words, on_image::free(r, &mut w[..words], BlockOff(b))),
+        _ if !ready(words, w.len()) => done(words, Err(Reason::Unsound)),
+        Entry::Malloc(n) => granted(words, on_image::malloc(r, &mut w[..words], n)),
+        Entry::Free(b) => done(words, on_image::free(r, &mut w[..words], BlockOff(b))),
         Entry::Realloc(b, n) => {
-            answered(words, on_image::realloc(r, &mut w[..words], BlockOff(b), n))
+            granted(words, on_image::realloc(r, &mut w[..words], BlockOff(b), n))
         }
-        Entry::Memalign(a, n) => answered(words, on_image::memalign(r, &mut w[..words], a, n)),
+        Entry::Memalign(a, n) => granted(words, on_image::memalign(r, &mut w[..words], a, n)),
     }
 }

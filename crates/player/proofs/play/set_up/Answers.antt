@@ -5,14 +5,8 @@ use Rattle.player.proofs.play.set_up.Goals as goal
 pub returns-then-n-w : goal.returns-then-n-w
 returns-then-n-w c = search (laws, rules)
 
-pub returns-in-Done : goal.returns-in-Done
-returns-in-Done c = search (laws, rules)
+pub returns-in-Ok : goal.returns-in-Ok
+returns-in-Ok c = search (laws, rules)
 
-pub returns-in-Granted : goal.returns-in-Granted
-returns-in-Granted c = search (laws, rules)
-
-pub returns-in-Bytes : goal.returns-in-Bytes
-returns-in-Bytes c = search (laws, rules)
-
-pub returns-in-Refused : goal.returns-in-Refused
-returns-in-Refused c = search (laws, rules)
+pub returns-in-Err : goal.returns-in-Err
+returns-in-Err c = search (laws, rules)
