@@ -2,7 +2,7 @@
 ghost use Rattle.std.specs.Prelude.{◌≡◌};
 ghost use Rattle.damaged.specs.Counts.{told, judged};
 
-use crate::heap::{Heap, Place};
+use crate::sample::{Place, Sample};
 use std::io;
 
 // What is wrong, and the words that make it so.
@@ -11,7 +11,7 @@ pub type Damage = (&'static str, &'static [(Place, u64)]);
 // The heap that is damaged, how many damages there were, and how many answers were wrong.
 #[derive(Drop)]
 pub struct Bench {
-    heap: Heap,
+    heap: Sample,
     pub tried: u64,
     pub wrong: u64,
 }
@@ -19,7 +19,7 @@ pub struct Bench {
 impl Bench {
     pub fn new() -> Bench {
         Bench {
-            heap: Heap::fresh(128),
+            heap: Sample::fresh(128),
             tried: 0,
             wrong: 0,
         }
@@ -37,7 +37,7 @@ impl Bench {
     }
 
     // From here on this heap is damaged.
-    pub fn take(&mut self, rt: &impl Print, heap: Heap, name: &str) -> io::Result<()>
+    pub fn take(&mut self, rt: &impl Print, heap: Sample, name: &str) -> io::Result<()>
         ensures { self.new.heap ≡ heap }
     {
         self.heap = heap;

@@ -1,7 +1,7 @@
 // Damages to the word count, the tiling, the top, the maps and the spare chunk.
 use crate::bench::{Bench, Damage};
-use crate::heap::Place::{Record, Word};
-use crate::heap::{Heap, SMALLBINS, TREEBINS, set_up};
+use crate::sample::Place::{Record, Word};
+use crate::sample::{SMALLBINS, Sample, TREEBINS, set_up};
 use chunk::access::NONE;
 use chunk::image::{DV, DVSIZE, LENGTH, SMALLMAP, TOP, TOPSIZE, TREEMAP};
 use sound::sound;
@@ -138,13 +138,13 @@ const SPARE: &[Damage] = &[
 ];
 
 pub fn tilings(rt: &impl Print, bench: &mut Bench) -> io::Result<()> {
-    bench.take(rt, Heap::fresh(128), "fresh")?;
+    bench.take(rt, Sample::fresh(128), "fresh")?;
     bench.damages(rt, FRESH)?;
-    bench.take(rt, Heap::four_used(), "M")?;
+    bench.take(rt, Sample::four_used(), "M")?;
     bench.damages(rt, HEADS)?;
     bench.damages(rt, SIZES)?;
     bench.damages(rt, TOPS)?;
     bench.damages(rt, EMPTY_PLACES)?;
-    bench.take(rt, Heap::one_spare(), "D")?;
+    bench.take(rt, Sample::one_spare(), "D")?;
     bench.damages(rt, SPARE)
 }

@@ -4,7 +4,7 @@
 
 mod bench;
 mod chunks;
-mod heap;
+mod sample;
 mod small;
 mod trees;
 

@@ -1,7 +1,7 @@
 // Damages to the small bins, and free chunks that adjoin.
 use crate::bench::{Bench, Damage};
-use crate::heap::Place::{Record, Word};
-use crate::heap::{Heap, SMALLBINS, TREEBINS};
+use crate::sample::Place::{Record, Word};
+use crate::sample::{SMALLBINS, Sample, TREEBINS};
 use chunk::access::{NONE, ROOT};
 use chunk::image::{DV, DVSIZE, SMALLMAP, TREEMAP};
 use std::io;
@@ -103,9 +103,9 @@ const ADJOINING: &[Damage] = &[
 ];
 
 pub fn small_bins(rt: &impl Print, bench: &mut Bench) -> io::Result<()> {
-    bench.take(rt, Heap::one_in_a_bin(), "M, free 96")?;
+    bench.take(rt, Sample::one_in_a_bin(), "M, free 96")?;
     bench.damages(rt, TWO_PLACES)?;
-    bench.take(rt, Heap::two_in_a_bin(), "two chunks in small bin 4")?;
+    bench.take(rt, Sample::two_in_a_bin(), "two chunks in small bin 4")?;
     bench.damages(rt, HEADS_AND_FEET)?;
     bench.damages(rt, LINKS)?;
     bench.damages(rt, ADJOINING)

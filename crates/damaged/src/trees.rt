@@ -1,8 +1,8 @@
 // Damages to a tree, on 512 words. Word k of the root 32 is word 4 + k of the arena, of its ring's member 496 word 62 + k, of child 0,
 // 960, word 120 + k, of child 1, 1392, word 174 + k.
 use crate::bench::{Bench, Damage};
-use crate::heap::Place::{Record, Word};
-use crate::heap::{Heap, SMALLBINS, TREEBINS};
+use crate::sample::Place::{Record, Word};
+use crate::sample::{SMALLBINS, Sample, TREEBINS};
 use chunk::access::{NONE, ROOT};
 use chunk::image::{SMALLMAP, TREEMAP};
 use std::io;
@@ -133,7 +133,7 @@ const MOVED: &[Damage] = &[
 ];
 
 pub fn trees(rt: &impl Print, bench: &mut Bench) -> io::Result<()> {
-    bench.take(rt, Heap::tree(), "a tree with two children and a ring")?;
+    bench.take(rt, Sample::tree(), "a tree with two children and a ring")?;
     bench.damages(rt, BINS)?;
     bench.damages(rt, NODES)?;
     bench.damages(rt, CHILDREN)?;

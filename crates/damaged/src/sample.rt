@@ -3,9 +3,9 @@ ghost use Rattle.std.specs.Prelude.{◌≡◌, ◌≤◌, take};
 ghost use Rattle.words.specs.Edition.{wide};
 ghost use Rattle.sound.specs.SoundBytes.{sound_b};
 
-use chunk::access::{BlockOff, ChunkOff, NONE, difference, from_mem, put};
-use chunk::heads::set_top_head;
-use chunk::image::{LENGTH, SMALLMAP, TREEMAP, no_dv, set_smallbin, set_top, set_treebin};
+use chunk::access::{BlockOff, ChunkOff, NONE, difference, from_mem};
+use chunk::heap::Heap;
+use chunk::image::{LENGTH, SMALLMAP, Small, TREEMAP, Tree, set_bin};
 use free::free_chunk;
 use index::sizes::request2size;
 use malloc::malloc_chunk;
@@ -24,41 +24,42 @@ pub const SMALLBINS: usize = 8;
 pub const TREEBINS: usize = 40;
 
 // As set-up leaves an arena of fewer than 65536 words: every bin empty, all that there is in the top.
-pub fn set_up(record: &mut [u64; 72], words: &mut [u64]) {
+pub fn set_up(image: &mut [u64; 72], words: &mut [u64]) {
     let length = 8 * (words.len() as u64 % 65536);
-    record[SMALLMAP] = 0;
-    record[TREEMAP] = 0;
-    record[LENGTH] = length;
-    record[7] = 0;
+    image[SMALLMAP] = 0;
+    image[TREEMAP] = 0;
+    image[LENGTH] = length;
+    image[7] = 0;
     for i in 0..32 {
-        set_smallbin(record, i, ChunkOff(NONE));
-        set_treebin(record, i, ChunkOff(NONE));
+        set_bin::<Small>(image, i, ChunkOff(NONE));
+        set_bin::<Tree>(image, i, ChunkOff(NONE));
     }
-    no_dv(record);
     let n = difference(length, 80);
-    set_top(record, ChunkOff(0), n);
-    set_top_head(words, ChunkOff(0), n);
-    put(words, ChunkOff(n), 1, 80);
+    let mut heap = Heap { image, words };
+    heap.no_dv();
+    heap.set_top(ChunkOff(0), n);
+    heap.set_top_head(ChunkOff(0), n);
+    heap.put(ChunkOff(n), 1, 80);
 }
 
 // The arena is the first words of the 512.
 #[derive(Clone, Copy)]
-pub struct Heap {
+pub struct Sample {
     record: [u64; 72],
     words: [u64; 512],
     arena: usize,
     ghost arena_fits: { arena ≤ 512 },
 }
 
-impl Heap {
+impl Sample {
     // An arena of n words, and nothing in it.
-    pub fn fresh(n: usize) -> Heap
+    pub fn fresh(n: usize) -> Sample
         requires { n ≤ 512 }
     {
         let mut record = [0; 72];
         let mut words = [0; 512];
         set_up(&mut record, &mut words[..n]);
-        Heap {
+        Sample {
             record,
             words,
             arena: n,
@@ -66,8 +67,8 @@ impl Heap {
     }
 
     // Chunks 0 of 32, 32 of 48, 80 of 240, 320 of 256, all in use; the top at 576.
-    pub fn four_used() -> Heap {
-        let mut heap = Heap::fresh(128);
+    pub fn four_used() -> Sample {
+        let mut heap = Sample::fresh(128);
         heap.malloc(24);
         heap.malloc(25);
         heap.malloc(232);
@@ -76,22 +77,22 @@ impl Heap {
     }
 
     // The same with chunk 80 in small bin 30.
-    pub fn one_in_a_bin() -> Heap {
-        let mut heap = Heap::four_used();
+    pub fn one_in_a_bin() -> Sample {
+        let mut heap = Sample::four_used();
         heap.free(96);
         heap
     }
 
     // The same with chunk 80 of 32 in use, and the spare chunk 112 of 208.
-    pub fn one_spare() -> Heap {
-        let mut heap = Heap::one_in_a_bin();
+    pub fn one_spare() -> Sample {
+        let mut heap = Sample::one_in_a_bin();
         heap.malloc(24);
         heap
     }
 
     // Five chunks of 32; those at 64 and 0 are small bin 4, the newest first; the top at 160.
-    pub fn two_in_a_bin() -> Heap {
-        let mut heap = Heap::fresh(128);
+    pub fn two_in_a_bin() -> Sample {
+        let mut heap = Sample::fresh(128);
         for _ in 0..5 {
             heap.malloc(24);
         }
@@ -101,8 +102,8 @@ impl Heap {
     }
 
     // Tree bin 1: root 32 of 432, in its ring 496; child 0 is 960 of 400, child 1 is 1392 of 464. Between them chunks of 32 in use.
-    pub fn tree() -> Heap {
-        let mut heap = Heap::fresh(512);
+    pub fn tree() -> Sample {
+        let mut heap = Sample::fresh(512);
         for bytes in [424, 424, 392, 456] {
             heap.malloc(24);
             heap.malloc(bytes);
@@ -116,20 +117,20 @@ impl Heap {
 
     fn malloc(&mut self, bytes: u64) {
         let words = &mut self.words[..];
-        malloc_chunk(
-            &mut self.record,
-            &mut words[..self.arena],
-            request2size(bytes),
-        );
+        let mut heap = Heap {
+            image: &mut self.record,
+            words: &mut words[..self.arena],
+        };
+        malloc_chunk(&mut heap, request2size(bytes));
     }
 
     fn free(&mut self, block: u64) {
         let words = &mut self.words[..];
-        free_chunk(
-            &mut self.record,
-            &mut words[..self.arena],
-            from_mem(BlockOff(block)),
-        );
+        let mut heap = Heap {
+            image: &mut self.record,
+            words: &mut words[..self.arena],
+        };
+        free_chunk(&mut heap, from_mem(BlockOff(block)));
     }
 
     pub fn put(&mut self, place: Place, value: u64) {
