@@ -1,8 +1,8 @@
-// A heap at work: its record and the arena's words, both lent. The check, which changes nothing, reads them as they are.
+// A heap at work: its record and the arena's words, both lent. A step that writes words alone takes them alone, and the check, which
+// changes nothing, reads both as they are.
 ghost use Rattle.std.specs.Prelude.{◌≡◌};
 ghost use Rattle.words.specs.Edition.{wide};
-ghost use Rattle.chunk.specs.Bytes.{word, put};
-ghost use Rattle.chunk.specs.Running.{Writes};
+ghost use Rattle.chunk.specs.Bytes.{word};
 
 use crate::access;
 use crate::access::ChunkOff;
@@ -26,11 +26,5 @@ impl Heap<'_> {
         ensures { result.0 ≡ word wide self.now.words.now c.0 k }
     {
         access::link(self.words, c, k)
-    }
-
-    pub fn put(&mut self, c: ChunkOff, k: u32, v: u64)
-        ensures { Writes self.old self.new (put wide self.old.words.now c.0 k v) }
-    {
-        access::put(self.words, c, k, v);
     }
 }

@@ -3,7 +3,8 @@ ghost use Rattle.std.specs.Prelude.{◌≡◌, ◌≤◌, take};
 ghost use Rattle.words.specs.Edition.{wide};
 ghost use Rattle.sound.specs.SoundBytes.{sound_b};
 
-use chunk::access::{BlockOff, ChunkOff, NONE, difference, from_mem};
+use chunk::access::{BlockOff, ChunkOff, NONE, difference, from_mem, put};
+use chunk::heads::set_top_head;
 use chunk::heap::Heap;
 use chunk::image::{LENGTH, SMALLMAP, Small, TREEMAP, Tree, set_bin};
 use free::free_chunk;
@@ -38,8 +39,8 @@ pub fn set_up(image: &mut [u64; 72], words: &mut [u64]) {
     let mut heap = Heap { image, words };
     heap.no_dv();
     heap.set_top(ChunkOff(0), n);
-    heap.set_top_head(ChunkOff(0), n);
-    heap.put(ChunkOff(n), 1, 80);
+    set_top_head(heap.words, ChunkOff(0), n);
+    put(heap.words, ChunkOff(n), 1, 80);
 }
 
 // The arena is the first words of the 512.

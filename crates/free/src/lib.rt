@@ -7,6 +7,7 @@ ghost use Rattle.chunk.specs.Running.{Becomes};
 ghost use Rattle.free.specs.FreeBytes.{away_b, join_top, join_dv, join_binned, forward_b, back_b, dispose_b, free_b};
 
 use chunk::access::{ChunkOff, minus_offset, plus_offset, sum};
+use chunk::heads::{set_free_with_pinuse, set_size_and_pinuse_of_free_chunk, set_top_head};
 use chunk::heap::Heap;
 use treebin::bins::{insert_chunk, unlink_chunk};
 
@@ -26,7 +27,7 @@ fn join_top(h: &mut Heap, p: ChunkOff, n: u64)
 {
     let ts = sum(h.topsize(), n);
     h.set_top(p, ts);
-    h.set_top_head(p, ts);
+    set_top_head(h.words, p, ts);
 }
 
 fn join_dv(h: &mut Heap, p: ChunkOff, n: u64)
@@ -34,7 +35,7 @@ fn join_dv(h: &mut Heap, p: ChunkOff, n: u64)
 {
     let ds = sum(h.dvsize(), n);
     h.set_dv(p, ds);
-    h.set_size_and_pinuse_of_free_chunk(p, ds);
+    set_size_and_pinuse_of_free_chunk(h.words, p, ds);
 }
 
 fn join_binned(h: &mut Heap, p: ChunkOff, n: u64, next: ChunkOff, mine: bool)
@@ -43,7 +44,7 @@ fn join_binned(h: &mut Heap, p: ChunkOff, n: u64, next: ChunkOff, mine: bool)
     let b = h.size(next);
     let all = sum(n, b);
     unlink_chunk(h, next, b);
-    h.set_size_and_pinuse_of_free_chunk(p, all);
+    set_size_and_pinuse_of_free_chunk(h.words, p, all);
     put_away(h, p, all, mine);
 }
 
@@ -52,7 +53,7 @@ fn dispose_forward(h: &mut Heap, p: ChunkOff, n: u64, next: ChunkOff, mine: bool
     ensures { Becomes h.old h.new (forward_b wide mine h.old.image.now h.old.words.now p.0 n next.0) }
 {
     if h.cinuse(next) {
-        h.set_free_with_pinuse(p, n, next);
+        set_free_with_pinuse(h.words, p, n, next);
         put_away(h, p, n, mine);
     } else if next == h.top() {
         join_top(h, p, n);

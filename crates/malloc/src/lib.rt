@@ -9,6 +9,10 @@ ghost use Rattle.malloc.specs.MallocBytes.{settle_b, serve_b, malloc_top, cut_dv
 ghost use Rattle.malloc.specs.Granting.{rest_of, Replies, Grants};
 
 use chunk::access::{ChunkOff, NONE, difference, plus_offset, sum};
+use chunk::heads::{
+    set_inuse_and_pinuse, set_size_and_pinuse_of_free_chunk, set_size_and_pinuse_of_inuse_chunk,
+    set_top_head,
+};
 use chunk::heap::Heap;
 use chunk::image::Small;
 use index::bin_map::{filled_from, own_or_next};
@@ -39,11 +43,11 @@ fn split(h: &mut Heap, to: Rest, c: ChunkOff, nb: u64, n: u64)
     ensures { Becomes h.old h.new (serve_b wide (rest_of to) h.old.image.now h.old.words.now c.0 nb n) }
 {
     if n < 32 {
-        h.set_inuse_and_pinuse(c, sum(nb, n));
+        set_inuse_and_pinuse(h.words, c, sum(nb, n));
     } else {
         let rest = plus_offset(c, nb);
-        h.set_size_and_pinuse_of_inuse_chunk(c, nb);
-        h.set_size_and_pinuse_of_free_chunk(rest, n);
+        set_size_and_pinuse_of_inuse_chunk(h.words, c, nb);
+        set_size_and_pinuse_of_free_chunk(h.words, rest, n);
         settle(h, to, rest, n);
     }
 }
@@ -58,8 +62,8 @@ fn malloc_top(h: &mut Heap, nb: u64) -> ChunkOff
     let p = h.top();
     let rest = plus_offset(p, nb);
     h.set_top(rest, ts - nb);
-    h.set_top_head(rest, ts - nb);
-    h.set_size_and_pinuse_of_inuse_chunk(p, nb);
+    set_top_head(h.words, rest, ts - nb);
+    set_size_and_pinuse_of_inuse_chunk(h.words, p, nb);
     p
 }
 
@@ -69,13 +73,13 @@ fn cut_dv(h: &mut Heap, d: ChunkOff, s: u64, nb: u64, n: u64) -> ChunkOff
 {
     if n < 32 {
         h.no_dv();
-        h.set_inuse_and_pinuse(d, s);
+        set_inuse_and_pinuse(h.words, d, s);
         return d;
     }
     let rest = plus_offset(d, nb);
     h.set_dv(rest, n);
-    h.set_size_and_pinuse_of_inuse_chunk(d, nb);
-    h.set_size_and_pinuse_of_free_chunk(rest, n);
+    set_size_and_pinuse_of_inuse_chunk(h.words, d, nb);
+    set_size_and_pinuse_of_free_chunk(h.words, rest, n);
     d
 }
 
@@ -96,7 +100,7 @@ fn take_small(h: &mut Heap, j: u32) -> ChunkOff
 {
     let p = h.bin_at::<Small>(j);
     unlink_first_small_chunk(h, p, j);
-    h.set_inuse_and_pinuse(p, small_index2size(j));
+    set_inuse_and_pinuse(h.words, p, small_index2size(j));
     p
 }
 

@@ -8,6 +8,7 @@ ghost use Rattle.malloc.specs.Granting.{Replies, Grants};
 ghost use Rattle.memalign.specs.MemalignBytes.{lead_of, give_lead_b, give_tail_b, trim_b, memalign_b};
 
 use chunk::access::{ChunkOff, difference, plus_offset, sum, to_mem};
+use chunk::heads::set_inuse;
 use chunk::heap::Heap;
 use free::dispose_chunk;
 use index::sizes::request2size;
@@ -36,8 +37,8 @@ fn give_lead(h: &mut Heap, p: ChunkOff, lead: u64)
     ensures { Becomes h.old h.new (give_lead_b wide h.old.image.now h.old.words.now p.0 lead) }
 {
     let n = h.size(p);
-    h.set_inuse(plus_offset(p, lead), difference(n, lead));
-    h.set_inuse(p, lead);
+    set_inuse(h.words, plus_offset(p, lead), difference(n, lead));
+    set_inuse(h.words, p, lead);
     dispose_chunk(h, p, lead);
 }
 

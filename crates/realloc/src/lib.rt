@@ -9,6 +9,7 @@ ghost use Rattle.realloc.specs.Trying.{Tries};
 ghost use Rattle.realloc.specs.ReallocBytes.{cut_back, shrink_b, grow_top, grow_dv, grow_binned, try_realloc, copy_up, copy_words, move_block, realloc_b};
 
 use chunk::access::{ChunkOff, difference, plus_offset, sum};
+use chunk::heads::{clear_pinuse, set_inuse, set_size_and_pinuse_of_free_chunk, set_top_head};
 use chunk::heap::Heap;
 use free::dispose_chunk;
 use malloc::malloc_chunk;
@@ -19,8 +20,8 @@ pub fn cut_back(h: &mut Heap, p: ChunkOff, nb: u64, n: u64)
     ensures { Becomes h.old h.new (cut_back wide h.old.image.now h.old.words.now p.0 nb n) }
 {
     let rest = plus_offset(p, nb);
-    h.set_inuse(p, nb);
-    h.set_inuse(rest, n);
+    set_inuse(h.words, p, nb);
+    set_inuse(h.words, rest, n);
     dispose_chunk(h, rest, n);
 }
 
@@ -42,8 +43,8 @@ fn grow_top(h: &mut Heap, p: ChunkOff, all: u64, nb: u64) -> bool
     }
     let rest = plus_offset(p, nb);
     h.set_top(rest, all - nb);
-    h.set_inuse(p, nb);
-    h.set_top_head(rest, all - nb);
+    set_inuse(h.words, p, nb);
+    set_top_head(h.words, rest, all - nb);
     true
 }
 
@@ -56,14 +57,14 @@ fn grow_dv(h: &mut Heap, p: ChunkOff, all: u64, nb: u64) -> bool
     }
     if all - nb < 32 {
         h.no_dv();
-        h.set_inuse(p, all);
+        set_inuse(h.words, p, all);
         return true;
     }
     let rest = plus_offset(p, nb);
     h.set_dv(rest, all - nb);
-    h.set_inuse(p, nb);
-    h.set_size_and_pinuse_of_free_chunk(rest, all - nb);
-    h.clear_pinuse(plus_offset(p, all));
+    set_inuse(h.words, p, nb);
+    set_size_and_pinuse_of_free_chunk(h.words, rest, all - nb);
+    clear_pinuse(h.words, plus_offset(p, all));
     true
 }
 
@@ -76,7 +77,7 @@ fn grow_binned(h: &mut Heap, p: ChunkOff, old: u64, next: ChunkOff, nb: u64) -> 
         return false;
     }
     unlink_chunk(h, next, b);
-    h.set_inuse(p, all);
+    set_inuse(h.words, p, all);
     shrink(h, p, nb, all - nb);
     true
 }

@@ -3,29 +3,29 @@
 
 ghost use Rattle.std.specs.Prelude.{◌≡◌};
 ghost use Rattle.words.specs.Edition.{wide};
-ghost use Rattle.chunk.specs.Running.{Becomes, Writes};
+ghost use Rattle.chunk.specs.Running.{Becomes};
 ghost use Rattle.smallbin.specs.SmallBytes.{link_new_w, join_w, insert_small, unlink_small, unlink_first};
 
-use chunk::access::{ChunkOff, NONE};
+use chunk::access::{ChunkOff, NONE, put};
 use chunk::heap::Heap;
 use chunk::image::Small;
 use index::sizes::small_index;
 
 // c goes before the newest, f.
-fn link_new(h: &mut Heap, c: ChunkOff, f: ChunkOff)
-    ensures { Writes h.old h.new (link_new_w wide h.old.words.now c.0 f.0) }
+fn link_new(w: &mut [u64], c: ChunkOff, f: ChunkOff)
+    ensures { w.new ≡ link_new_w wide w.old c.0 f.0 }
 {
-    h.put(f, 3, c.0);
-    h.put(c, 2, f.0);
-    h.put(c, 3, NONE);
+    put(w, f, 3, c.0);
+    put(w, c, 2, f.0);
+    put(w, c, 3, NONE);
 }
 
 // f, the older, and b, the newer, become neighbours.
-pub fn join(h: &mut Heap, f: ChunkOff, b: ChunkOff)
-    ensures { Writes h.old h.new (join_w wide h.old.words.now f.0 b.0) }
+pub fn join(w: &mut [u64], f: ChunkOff, b: ChunkOff)
+    ensures { w.new ≡ join_w wide w.old f.0 b.0 }
 {
-    h.put(f, 3, b.0);
-    h.put(b, 2, f.0);
+    put(w, f, 3, b.0);
+    put(w, b, 2, f.0);
 }
 
 pub fn insert_small_chunk(h: &mut Heap, c: ChunkOff, size: u64)
@@ -34,7 +34,7 @@ pub fn insert_small_chunk(h: &mut Heap, c: ChunkOff, size: u64)
     let i = small_index(size);
     let f = h.bin_at::<Small>(i);
     h.enter::<Small>(i, c);
-    link_new(h, c, f);
+    link_new(h.words, c, f);
 }
 
 pub fn unlink_small_chunk(h: &mut Heap, c: ChunkOff, size: u64)
@@ -42,7 +42,7 @@ pub fn unlink_small_chunk(h: &mut Heap, c: ChunkOff, size: u64)
 {
     let f = h.link(c, 2);
     let b = h.link(c, 3);
-    join(h, f, b);
+    join(h.words, f, b);
     if b.0 == NONE {
         h.relink::<Small>(small_index(size), f);
     }
@@ -52,6 +52,6 @@ pub fn unlink_first_small_chunk(h: &mut Heap, c: ChunkOff, i: u32)
     ensures { Becomes h.old h.new (unlink_first wide h.old.image.now h.old.words.now c.0 i) }
 {
     let f = h.link(c, 2);
-    h.put(f, 3, NONE);
+    put(h.words, f, 3, NONE);
     h.relink::<Small>(i, f);
 }

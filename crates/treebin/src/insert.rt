@@ -4,11 +4,11 @@
 ghost use Rattle.std.specs.Prelude.{◌≡◌};
 ghost use Rattle.words.specs.Edition.{wide, no_link};
 ghost use Rattle.chunk.specs.Bytes.{put};
-ghost use Rattle.chunk.specs.Running.{Becomes, Writes};
+ghost use Rattle.chunk.specs.Running.{Becomes};
 ghost use Rattle.treebin.specs.Seats.{HasWord, seat_of};
 ghost use Rattle.treebin.specs.TreeBytes.{child_word, next_key, seek_b, tie_w, slot_w, ring_w, seat_w, insert_large};
 
-use chunk::access::{ChunkOff, NONE, ROOT};
+use chunk::access::{ChunkOff, NONE, ROOT, link, put};
 use chunk::heap::Heap;
 use chunk::image::Tree;
 use index::tree_bin::{child_side, compute_tree_index, first_key, next_key};
@@ -61,59 +61,59 @@ fn seek(h: &Heap, root: ChunkOff, n: u64, key: u64) -> Seat
 }
 
 // A node of bin i without children.
-fn leaf(h: &mut Heap, c: ChunkOff, i: u32)
-    ensures { Writes h.old h.new (put wide (put wide (put wide h.old.words.now c.0 4 (no_link wide)) c.0 5 (no_link wide)) c.0 7 i) }
+fn leaf(w: &mut [u64], c: ChunkOff, i: u32)
+    ensures { w.new ≡ put wide (put wide (put wide w.old c.0 4 (no_link wide)) c.0 5 (no_link wide)) c.0 7 i }
 {
-    h.put(c, 4, NONE);
-    h.put(c, 5, NONE);
-    h.put(c, 7, i as u64);
+    put(w, c, 4, NONE);
+    put(w, c, 5, NONE);
+    put(w, c, 7, i as u64);
 }
 
 // c as a lone node without children, below up.
-fn tie(h: &mut Heap, c: ChunkOff, up: ChunkOff, i: u32)
-    ensures { Writes h.old h.new (tie_w wide h.old.words.now c.0 up.0 i) }
+fn tie(w: &mut [u64], c: ChunkOff, up: ChunkOff, i: u32)
+    ensures { w.new ≡ tie_w wide w.old c.0 up.0 i }
 {
-    h.put(c, 6, up.0);
-    h.put(c, 2, c.0);
-    h.put(c, 3, c.0);
-    leaf(h, c, i);
+    put(w, c, 6, up.0);
+    put(w, c, 2, c.0);
+    put(w, c, 3, c.0);
+    leaf(w, c, i);
 }
 
-fn link_slot(h: &mut Heap, c: ChunkOff, i: u32, t: ChunkOff, side: u32)
-    ensures { Writes h.old h.new (slot_w wide h.old.words.now c.0 i t.0 side) }
+fn link_slot(w: &mut [u64], c: ChunkOff, i: u32, t: ChunkOff, side: u32)
+    ensures { w.new ≡ slot_w wide w.old c.0 i t.0 side }
 {
-    h.put(t, side, c.0);
-    tie(h, c, t, i);
+    put(w, t, side, c.0);
+    tie(w, c, t, i);
 }
 
 // c stands in a ring before t, behind f.
-fn link_between(h: &mut Heap, c: ChunkOff, t: ChunkOff, f: ChunkOff)
-    ensures { Writes h.old h.new (put wide (put wide (put wide (put wide h.old.words.now f.0 3 c.0) t.0 2 c.0) c.0 2 f.0) c.0 3 t.0) }
+fn link_between(w: &mut [u64], c: ChunkOff, t: ChunkOff, f: ChunkOff)
+    ensures { w.new ≡ put wide (put wide (put wide (put wide w.old f.0 3 c.0) t.0 2 c.0) c.0 2 f.0) c.0 3 t.0 }
 {
-    h.put(f, 3, c.0);
-    h.put(t, 2, c.0);
-    h.put(c, 2, f.0);
-    h.put(c, 3, t.0);
+    put(w, f, 3, c.0);
+    put(w, t, 2, c.0);
+    put(w, c, 2, f.0);
+    put(w, c, 3, t.0);
 }
 
 // The newcomer goes before the tree member t, behind f.
-fn link_ring(h: &mut Heap, c: ChunkOff, i: u32, t: ChunkOff, f: ChunkOff)
-    ensures { Writes h.old h.new (ring_w wide h.old.words.now c.0 i t.0 f.0) }
+fn link_ring(w: &mut [u64], c: ChunkOff, i: u32, t: ChunkOff, f: ChunkOff)
+    ensures { w.new ≡ ring_w wide w.old c.0 i t.0 f.0 }
 {
-    link_between(h, c, t, f);
-    h.put(c, 6, NONE);
-    leaf(h, c, i);
+    link_between(w, c, t, f);
+    put(w, c, 6, NONE);
+    leaf(w, c, i);
 }
 
-fn link_at(h: &mut Heap, c: ChunkOff, i: u32, seat: Seat)
+fn link_at(w: &mut [u64], c: ChunkOff, i: u32, seat: Seat)
     requires { HasWord seat }
-    ensures { Writes h.old h.new (seat_w wide h.old.words.now c.0 i (seat_of seat)) }
+    ensures { w.new ≡ seat_w wide w.old c.0 i (seat_of seat) }
 {
     match seat {
-        Seat::Below(up) => link_slot(h, c, i, up.at, up.side),
+        Seat::Below(up) => link_slot(w, c, i, up.at, up.side),
         Seat::InRing(t) => {
-            let f = h.link(t, 2);
-            link_ring(h, c, i, t, f);
+            let f = link(w, t, 2);
+            link_ring(w, c, i, t, f);
         }
     }
 }
@@ -125,9 +125,9 @@ pub fn insert_large_chunk(h: &mut Heap, c: ChunkOff, n: u64)
     let root = h.bin_at::<Tree>(i);
     if root.0 == NONE {
         h.enter::<Tree>(i, c);
-        tie(h, c, ChunkOff(ROOT), i);
+        tie(h.words, c, ChunkOff(ROOT), i);
     } else {
         let seat = seek(h, root, n, first_key(n, i));
-        link_at(h, c, i, seat);
+        link_at(h.words, c, i, seat);
     }
 }

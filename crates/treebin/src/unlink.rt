@@ -9,7 +9,7 @@ ghost use Rattle.chunk.specs.Running.{Becomes, Writes};
 ghost use Rattle.treebin.specs.TreeBytes.{seat, last_side, deep_b, pop_w, pop_heir, lead_r, lead_w, adopt_w, replace_tree, unlink_large};
 
 use crate::insert::{LEVELS, Place};
-use chunk::access::{ChunkOff, NONE, ROOT};
+use chunk::access::{ChunkOff, NONE, ROOT, put};
 use chunk::heap::Heap;
 use chunk::image::Tree;
 use smallbin::join;
@@ -50,7 +50,7 @@ fn pop_heir(h: &mut Heap, c: ChunkOff) -> ChunkOff
     }
     let s = deepest(h, c, side);
     let heir = h.link(s.at, s.side);
-    h.put(s.at, s.side, NONE);
+    put(h.words, s.at, s.side, NONE);
     heir
 }
 
@@ -70,26 +70,26 @@ fn lead_to(h: &mut Heap, c: ChunkOff, up: ChunkOff, v: ChunkOff)
         h.relink::<Tree>(i, v);
     } else {
         let side = child_slot(h, up, c);
-        h.put(up, side, v.0);
+        put(h.words, up, side, v.0);
     }
 }
 
 // x and y get the parent v.
-fn set_parent(h: &mut Heap, v: ChunkOff, x: ChunkOff, y: ChunkOff)
-    ensures { Writes h.old h.new (put wide (put wide h.old.words.now x.0 6 v.0) y.0 6 v.0) }
+fn set_parent(w: &mut [u64], v: ChunkOff, x: ChunkOff, y: ChunkOff)
+    ensures { w.new ≡ put wide (put wide w.old x.0 6 v.0) y.0 6 v.0 }
 {
-    h.put(x, 6, v.0);
-    h.put(y, 6, v.0);
+    put(w, x, 6, v.0);
+    put(w, y, 6, v.0);
 }
 
 // v gets the parent up and the children x and y.
-fn adopt(h: &mut Heap, v: ChunkOff, up: ChunkOff, x: ChunkOff, y: ChunkOff)
-    ensures { Writes h.old h.new (adopt_w wide h.old.words.now v.0 up.0 x.0 y.0) }
+fn adopt(w: &mut [u64], v: ChunkOff, up: ChunkOff, x: ChunkOff, y: ChunkOff)
+    ensures { w.new ≡ adopt_w wide w.old v.0 up.0 x.0 y.0 }
 {
-    h.put(v, 6, up.0);
-    h.put(v, 4, x.0);
-    h.put(v, 5, y.0);
-    set_parent(h, v, x, y);
+    put(w, v, 6, up.0);
+    put(w, v, 4, x.0);
+    put(w, v, 5, y.0);
+    set_parent(w, v, x, y);
 }
 
 // c's place in the tree, if it has one, goes to v.
@@ -104,7 +104,7 @@ fn replace_tree(h: &mut Heap, c: ChunkOff, v: ChunkOff)
     let y = h.link(c, 5);
     lead_to(h, c, up, v);
     if v.0 != NONE {
-        adopt(h, v, up, x, y);
+        adopt(h.words, v, up, x, y);
     }
 }
 
@@ -117,7 +117,7 @@ pub fn unlink_large_chunk(h: &mut Heap, c: ChunkOff)
         replace_tree(h, c, v);
     } else {
         let f = h.link(c, 2);
-        join(h, f, b);
+        join(h.words, f, b);
         replace_tree(h, c, b);
     }
 }
