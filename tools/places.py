@@ -52,7 +52,7 @@ def in_code(rx):
 
 
 point("1 own enums like Option or Result", by(r"^\s*(Nothing|Granted\(|Refused\(|Odd),?"))
-point("1 a number or NONE for none", in_code(r"(==|!=|>=) (NONE|FRESH)\b|\(NONE\)|[:=] NONE\b|return NONE|^\s*NONE$|<\s*32 \{ *$|\bn == 0 \{"))
+point("1 a number or NONE for none", in_code(r"(==|!=|>=) (NONE|FRESH)\b|\(NONE\)|[:=] NONE\b|return NONE|^\s*NONE$|\bj < 32 \{|s\.n == 0 \{"))
 point("1 numbers for kinds and refusals", in_code(r"refusal: |return [1-9];|=> [0-9],|=> NONE,|\bkind [=<>]+ [0-9]|f\[0\] ==|which ==|t\[[A-Z]+\]|l\[(AT|LINE)\]|j\[[A-Z]+\]"))
 twins = [
     ("mark_smallmap", "mark_treemap"), ("clear_smallmap", "clear_treemap"), ("smallmap", "treemap"), ("smallbin_at", "treebin_at"),

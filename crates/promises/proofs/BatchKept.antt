@@ -1,6 +1,6 @@
 -- REQUEST (xi) IS KEPT. The rows by the three tests in their order; what is left and answered by `one_by_one_lem` (`batch`) and induction over
 -- the list, in step with the history of its calls; the rest from these. Assumes nothing.
-use Rattle.std.specs.Prelude.{◌≡◌, Bool, ◌&&◌, List, [], ◌∷◌, ◌++◌, ◌↔◌, ◌⊎◌, eqb, leb, length, set}
+use Rattle.std.specs.Prelude.{◌≡◌, Bool, ◌&&◌, List, [], ◌∷◌, ◌++◌, ◌↔◌, ◌⊎◌, eqb, leb, length, set, Result, Ok, Err}
 use Rattle.std.proofs.Math.Path.{refl, sym, ap}
 use Rattle.std.proofs.Common.{◌∙◌, subst, inl, inr, ⊎_elim, arith, length-set, get_or-set_same, eqb-true, leb-true, leb-false, ne_eqb}
 use Rattle.std.proofs.Math.Bool.{true, false}
@@ -25,7 +25,11 @@ use Rattle.calls.specs.ByValue.{call_a}
 use Rattle.calls.specs.Histories.{Box, box, Event, asks, writes, rebuilds, write_b, asked, remade_box, after, set_up_on, HeldIn}
 use Rattle.calls.proofs.Histories.{calls-held, goes, from_set_up}
 use Rattle.arena.specs.Record.{numbers}
-use Rattle.batch.specs.Whole.{Whole}
+use Rattle.arena.specs.declared.control.Control as arena
+use Rattle.batch.specs.Whole.{Whole, refusal_number, whole_number, handed_back}
+use Rattle.batch.specs.declared.whole.WholeRefusal.{WholeRefusal}
+use Rattle.batch.specs.declared.whole.WholeRefusal.TheVariants.{BadCount, Unsound, ListsDoNotFit}
+use Rattle.batch.proofs.BatchCode.{not_zero}
 use Rattle.batch.specs.BatchBytes.{Said, said, by_kind, call_at, write_at, step_at, Ran, runs, lists_fit, made, Ended, ended, ends_as, batch_a}
 use Rattle.batch.specs.BatchBytes.{alone, ends_alone, one_by_one}
 use Rattle.batch.specs.BatchBytes as code
@@ -479,6 +483,21 @@ settled c w v v' cs xs ys ys' x x' p q =
     back : (x : Whole) → whole_of (ended x.refusal (numbers x.control) [] []) ≡ x
     back x = ap (λ d. record { refusal = x.refusal; control = d }) (settling.control_back x.control)
 
+-- the code's result can be read back from its number and the record that it leaves
+one_whole : (c : Control) (x x' : Result arena.Control WholeRefusal) → whole_number x ≡ whole_number x' → handed_back x c ≡ handed_back x' c → x ≡ x'
+one_whole c (Ok d) (Ok d') p q = ap Ok (sym (settling.control_back d) ∙ ap settling.control q ∙ settling.control_back d')
+one_whole c (Ok d) (Err why) p q = absurd (not_zero why (sym p))
+one_whole c (Err why) (Ok d) p q = absurd (not_zero why p)
+one_whole c (Err why) (Err why') p q = ap Err (sym (back why) ∙ ap named p ∙ back why')
+  where
+    named : ℕ → WholeRefusal
+    named n = pick (eqb n 1) BadCount (pick (eqb n 2) Unsound ListsDoNotFit)
+
+    back : (why : WholeRefusal) → named (refusal_number why) ≡ why
+    back BadCount = refl
+    back Unsound = refl
+    back ListsDoNotFit = refl
+
 pub batch : Batch
 batch =
     record {
@@ -497,4 +516,5 @@ batch =
       in_a_history = in_a_history;
       same_answers = same_answers;
       settled = settled;
+      one_whole = one_whole;
     }

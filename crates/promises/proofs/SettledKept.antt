@@ -78,13 +78,13 @@ count_back : (x : Result ℕ Reason) → count (bytes_answer x) ≡ x
 count_back (Ok n) = refl
 count_back (Err why) = ap Err (reason_back why)
 
-pub one_block : (x x' : Result BlockOff Reason) → block_answer x ≡ block_answer x' → x ≡ x'
+one_block : (x x' : Result BlockOff Reason) → block_answer x ≡ block_answer x' → x ≡ x'
 one_block x x' q = sym (block_back x) ∙ ap block q ∙ block_back x'
 
-pub one_done : (x x' : Result ⊤ Reason) → done_answer x ≡ done_answer x' → x ≡ x'
+one_done : (x x' : Result ⊤ Reason) → done_answer x ≡ done_answer x' → x ≡ x'
 one_done x x' q = sym (finish_back x) ∙ ap finish q ∙ finish_back x'
 
-pub one_bytes : (x x' : Result ℕ Reason) → bytes_answer x ≡ bytes_answer x' → x ≡ x'
+one_bytes : (x x' : Result ℕ Reason) → bytes_answer x ≡ bytes_answer x' → x ≡ x'
 one_bytes x x' q = sym (count_back x) ∙ ap count q ∙ count_back x'
 
 -- ---- records
@@ -147,4 +147,7 @@ settled =
     record {
       call = λ c d d' w v v' k a a' p q. one (call_a wide (numbers c) w k) d d' v v' a a' p q;
       set_up = λ d d' w v v' a a' p q. one (set_up_a wide w) d d' v v' a a' p q;
+      one_block = one_block;
+      one_done = one_done;
+      one_bytes = one_bytes;
     }

@@ -4,7 +4,7 @@
 -- writes and of rebuilds. Chunks are counted in words of 8 bytes: `Starts 0 h.chunks x (free s)` says that a free chunk of s words
 -- starts at
 -- word x. Assumes nothing.
-use Rattle.std.specs.Prelude.{◌≡◌, false, List, [], ◌∷◌, ◌↔◌, ◌⊎◌, ℕ, ◌+◌, ◌-◌, ◌*◌, ◌/◌, ◌%◌, ◌≤◌, ◌<◌, length, get_or, set}
+use Rattle.std.specs.Prelude.{◌≡◌, false, List, [], ◌∷◌, ◌↔◌, ◌⊎◌, ℕ, ◌+◌, ◌-◌, ◌*◌, ◌/◌, ◌%◌, ◌≤◌, ◌<◌, length, get_or, set, Result, ⊤}
 use Rattle.std.proofs.Math.Option.{none, some}
 use Rattle.words.specs.Edition.{wide, no_link}
 use Rattle.index.specs.Sizes.{need_words}
@@ -26,7 +26,9 @@ use Rattle.calls.specs.CallReach.{call_via, Copies}
 use Rattle.calls.specs.Histories.{Box, box, Event, writes, asked, after, answers, heap_after, set_up_on}
 use Rattle.calls.specs.InUse.{Ledger}
 use Rattle.calls.specs.Kept.{Unmoved, Unwritten}
-use Rattle.arena.specs.Answers.{answer_of}
+use Rattle.chunk.specs.declared.access.BlockOff.{BlockOff}
+use Rattle.arena.specs.Answers.{answer_of, block_answer, done_answer, bytes_answer}
+use Rattle.arena.specs.declared.answers.Reason.{Reason}
 use Rattle.arena.specs.Record.{numbers}
 use Rattle.arena.specs.Answers as code
 use Rattle.arena.specs.declared.control.Control as arena
@@ -304,7 +306,7 @@ pub record Swayed : Type 0 where
   pub same_words : (c : Control) (w v : List ℕ) (h : Heap) → Holds wide c w h → Agree h w v → (es : List Event)
       → Agree (heap_after wide (length w) h es) (after wide (box c w) es).words (after wide (box c v) es).words
 
--- NO SECOND OUTCOME: two outcomes that both fit a call's contract, in the types of the code, are one.
+-- NO SECOND OUTCOME: two outcomes that both fit a call's contract are one; the record is the code's, and the answer any of its calls' own.
 pub record Settled : Type 0 where
   pub call : (c d d' : arena.Control) (w v v' : List ℕ) (k : Call) (a a' : code.Answer)
       → ends (answer_of a) (numbers d) v ≡ call_a wide (numbers c) w k → ends (answer_of a') (numbers d') v' ≡ call_a wide (numbers c) w k
@@ -312,6 +314,10 @@ pub record Settled : Type 0 where
   pub set_up : (d d' : arena.Control) (w v v' : List ℕ) (a a' : code.Answer)
       → ends (answer_of a) (numbers d) v ≡ set_up_a wide w → ends (answer_of a') (numbers d') v' ≡ set_up_a wide w
       → (a ≡ a') × (d ≡ d') × (v ≡ v')
+  -- And two results of the code that say the same answer are one: of a block, of a call that is done, of a number of bytes.
+  pub one_block : (x x' : Result BlockOff Reason) → block_answer x ≡ block_answer x' → x ≡ x'
+  pub one_done : (x x' : Result ⊤ Reason) → done_answer x ≡ done_answer x' → x ≡ x'
+  pub one_bytes : (x x' : Result ℕ Reason) → bytes_answer x ≡ bytes_answer x' → x ≡ x'
 
 -- ALL OF IT.
 pub record Promises : Type 0 where
