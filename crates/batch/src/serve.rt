@@ -2,7 +2,7 @@
 ghost use Rattle.std.specs.Prelude.{◌≡◌};
 ghost use Rattle.words.specs.Edition.{wide};
 ghost use Rattle.rules.specs.Calls.{Malloc, Free, Realloc, Memalign};
-ghost use Rattle.chunk.specs.Running.{Same};
+ghost use Rattle.chunk.specs.Running.{SameLoans};
 ghost use Rattle.arena.specs.Answers.{block_answer, done_answer};
 ghost use Rattle.batch.specs.BatchBytes.{said, marked, by_kind};
 ghost use Rattle.batch.specs.Lines.{tells, meant, line_number, line_offset, made_by};
@@ -23,7 +23,7 @@ use realloc::realloc_chunk;
 
 fn malloc(heap: &mut Heap, live: &mut Marks, bytes: u64) -> Result<BlockOff, Reason>
     ensures call { tells (block_answer result) (state heap.new live.new) ≡ marked wide (state heap.old live.old) (Malloc bytes) }
-    ensures loan { Same heap.old heap.new }
+    ensures loan { SameLoans heap.old heap.new }
 {
     few(heap.words.len(), bytes)?;
     let p = malloc_chunk(heap, request2size(bytes));
@@ -32,7 +32,7 @@ fn malloc(heap: &mut Heap, live: &mut Marks, bytes: u64) -> Result<BlockOff, Rea
 
 fn free(heap: &mut Heap, live: &mut Marks, b: BlockOff) -> Result<(), Reason>
     ensures call { tells (done_answer result) (state heap.new live.new) ≡ marked wide (state heap.old live.old) (Free b.0) }
-    ensures loan { Same heap.old heap.new }
+    ensures loan { SameLoans heap.old heap.new }
 {
     known(live, b)?;
     live.remove(b.0);
@@ -42,7 +42,7 @@ fn free(heap: &mut Heap, live: &mut Marks, b: BlockOff) -> Result<(), Reason>
 
 fn realloc(heap: &mut Heap, live: &mut Marks, b: BlockOff, bytes: u64) -> Result<BlockOff, Reason>
     ensures call { tells (block_answer result) (state heap.new live.new) ≡ marked wide (state heap.old live.old) (Realloc b.0 bytes) }
-    ensures loan { Same heap.old heap.new }
+    ensures loan { SameLoans heap.old heap.new }
 {
     few(heap.words.len(), bytes)?;
     known(live, b)?;
@@ -57,7 +57,7 @@ fn memalign(
     bytes: u64,
 ) -> Result<BlockOff, Reason>
     ensures call { tells (block_answer result) (state heap.new live.new) ≡ marked wide (state heap.old live.old) (Memalign alignment bytes) }
-    ensures loan { Same heap.old heap.new }
+    ensures loan { SameLoans heap.old heap.new }
 {
     aligned(alignment)?;
     few(heap.words.len(), bytes)?;
@@ -68,7 +68,7 @@ fn memalign(
 // The offset of the answer, 0 for a "done".
 fn make(heap: &mut Heap, live: &mut Marks, call: Call) -> Result<u64, Reason>
     ensures call { made_by result (state heap.new live.new) ≡ marked wide (state heap.old live.old) (meant call) }
-    ensures loan { Same heap.old heap.new }
+    ensures loan { SameLoans heap.old heap.new }
 {
     match call {
         Call::Malloc(bytes) => malloc(heap, live, bytes).map(|b| b.0),
@@ -82,7 +82,7 @@ fn make(heap: &mut Heap, live: &mut Marks, call: Call) -> Result<u64, Reason>
 pub fn line(heap: &mut Heap, live: &mut Marks, kind: u64, x: u64, y: u64) -> Result<u64, Refusal>
     ensures call { said (line_number result) (line_offset result) (state heap.new live.new)
         ≡ by_kind (marked wide) (state heap.old live.old) kind x y }
-    ensures loan { Same heap.old heap.new }
+    ensures loan { SameLoans heap.old heap.new }
 {
     let call = call_of(kind, x, y)?;
     Ok(make(heap, live, call)?)

@@ -22,7 +22,7 @@ impl ChunkOff {
     }
 }
 
-// A link to nothing, and a root's parent word.
+// A link to nothing, and a root's parent word: words of the arena and of the record, where any number may stand.
 pub const NONE: u64 = 0xffff_ffff_ffff_ffff;
 
 pub const ROOT: u64 = 0xffff_ffff_ffff_fffe;

@@ -1,5 +1,5 @@
 // The record as 72 words: smallmap, treemap, dv, dvsize, top, topsize, length, a word that is 0, 32 small-bin heads, 32 tree roots.
-// What stands where is said here and nowhere else.
+// What stands where is said here.
 ghost use Rattle.std.specs.Prelude.{◌≡◌, ℕ, ◌+◌, ◌%◌, ◌<◌, slice_index, refl};
 ghost use Rattle.words.specs.Edition.{wide, no_link};
 ghost use Rattle.chunk.specs.Running.{Notes};

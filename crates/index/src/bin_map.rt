@@ -25,21 +25,7 @@ pub fn is_marked(map: u32, i: u32) -> bool
     map & (1 << (i % 32)) != 0
 }
 
-// The map with bit i set.
-pub fn mark_bin(map: u32, i: u32) -> u32
-    ensures { result ≡ mark (i % 32) map }
-{
-    map | (1 << (i % 32))
-}
-
-// The map with bit i clear.
-pub fn clear_bin(map: u32, i: u32) -> u32
-    ensures { result ≡ clear (i % 32) map }
-{
-    map & !(1 << (i % 32))
-}
-
-// The word with bit i set, and with it clear; i is taken modulo N, 32 in the record's maps and 64 in the sets of the check.
+// The word with bit i set, and with it clear. i is taken modulo N: 32 in the maps of bins, 64 in the sets of the check.
 pub fn with_bit<const N: u64>(word: u64, i: u64) -> u64
     requires { (0 < N) × (N ≤ 64) }
     ensures { result ≡ mark (i % N) word }

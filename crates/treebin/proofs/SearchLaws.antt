@@ -15,7 +15,7 @@ use Rattle.index.specs.BinMap.{first_from, in_map}
 use Rattle.index.specs.BinMapLaws.{place, no_place}
 use Rattle.chunk.specs.Bytes.{word, size_b, tree, link_of, map_of}
 use Rattle.treebin.specs.TreeBytes.{child_word, next_key}
-use Rattle.treebin.specs.Finds.{Finds}
+use Rattle.treebin.specs.Found.{IsFind}
 use Rattle.treebin.specs.declared.search.Found.{Found}
 use Rattle.treebin.specs.SearchBytes.{Best, best, no_best, better_b, leftmost, down_b, passed_by, Walked, walked, walk_b, best_above, best_own, best_tree}
 
@@ -131,34 +131,34 @@ module _ (w : List ℕ) (n root key t k rest : ℕ) (b : Best) (j : ℕ) (v : Wa
 -- ---- the best tree chunk: in the need's own tree, else in the next filled one
 
 module _ (b : Best) where
-  pub known_none : b.at ≡ 2 ^ 64 - 1 → Finds None b
+  pub known_none : b.at ≡ 2 ^ 64 - 1 → IsFind None b
   known_none q = q
 
-  pub known_some : {f : Found} → best f.at.0 f.rsize ≡ b → (b.at ≡ 2 ^ 64 - 1 → ⊥) → Finds (Some f) b
+  pub known_some : {f : Found} → best f.at.0 f.rsize ≡ b → (b.at ≡ 2 ^ 64 - 1 → ⊥) → IsFind (Some f) b
   known_some e m = (e, m)
 
 module _ (r w : List ℕ) (i n : ℕ) where
-  pub above_last : 31 < i → Finds None (best_above wide r w i n)
+  pub above_last : 31 < i → IsFind None (best_above wide r w i n)
   unfolding best_above
   above_last l = rw (lt-ltb 31 i l) refl
 
   module _ {m : ℕ} (l : i ≤ 31) (e₁ : m ≡ map_of tree r) where
-    pub above_none : None ≡ in_map 32 (first_from 32 m (i % 32)) → Finds None (best_above wide r w i n)
+    pub above_none : None ≡ in_map 32 (first_from 32 m (i % 32)) → IsFind None (best_above wide r w i n)
     unfolding best_above
     above_none q = rw (le-ltb 31 i l, sym e₁, le-ltb _ 32 (no_place 32 _ q)) refl
 
-    pub above_some : {j root : ℕ} {b b₁ : Best} (o : Option Found) → Some j ≡ in_map 32 (first_from 32 m (i % 32)) → root ≡ link_of tree r j → b₁ ≡ no_best wide → b ≡ down_b wide w n 64 root b₁ → Finds o b → Finds o (best_above wide r w i n)
+    pub above_some : {j root : ℕ} {b b₁ : Best} (o : Option Found) → Some j ≡ in_map 32 (first_from 32 m (i % 32)) → root ≡ link_of tree r j → b₁ ≡ no_best wide → b ≡ down_b wide w n 64 root b₁ → IsFind o b → IsFind o (best_above wide r w i n)
     unfolding best_above
     above_some {j} {root} {b} o q e₃ e₄ e₅ f =
         let p = place 32 (first_from 32 m (i % 32)) j q in
         let whole : b ≡ best_above wide r w i n = rw (le-ltb 31 i l, sym e₁, p.0, lt-ltb j 32 (subst (λ x. x < 32) p.0 p.1)) (cc) in
-        subst (Finds o) whole f
+        subst (IsFind o) whole f
 
 module _ (r w : List ℕ) (n : ℕ) {i root : ℕ} (e : i ≡ tree_index n) (e₁ : root ≡ link_of tree r i) where
   root_is : root ≡ link_of tree r (tree_index n)
   root_is = e₁ ∙ ap (link_of tree r) e
 
-  pub own_empty : (o : Option Found) → root ≡ 2 ^ 64 - 1 → Finds o (best_above wide r w (i + 1) n) → Finds o (best_tree wide r w n)
+  pub own_empty : (o : Option Found) → root ≡ 2 ^ 64 - 1 → IsFind o (best_above wide r w (i + 1) n) → IsFind o (best_tree wide r w n)
   unfolding best_tree
   own_empty o q f = rw (eq-eqb (link_of tree r (tree_index n)) (2 ^ 64 - 1) (sym root_is ∙ q), sym e) f
 
@@ -170,14 +170,14 @@ module _ (r w : List ℕ) (n : ℕ) {i root : ℕ} (e : i ≡ tree_index n) (e�
     unfolding best_own
     own_is = sym (e₄ ∙ ap (λ s. down_b wide w n 64 s.rest s.found) e₃ ∙ cc)
 
-    pub own_found : {f : Found} → best f.at.0 f.rsize ≡ b₂ → (b₂.at ≡ 2 ^ 64 - 1 → ⊥) → Finds (Some f) (best_tree wide r w n)
+    pub own_found : {f : Found} → best f.at.0 f.rsize ≡ b₂ → (b₂.at ≡ 2 ^ 64 - 1 → ⊥) → IsFind (Some f) (best_tree wide r w n)
     unfolding best_tree
     own_found e₅ m = (e₅ ∙ sym whole, λ z. m (sym (ap (λ b. b.at) whole) ∙ z))
       where
         whole : best_tree wide r w n ≡ b₂
         whole = rw (ne_eqb (link_of tree r (tree_index n)) (2 ^ 64 - 1) there, own_is, ne_eqb b₂.at (2 ^ 64 - 1) m) refl
 
-    pub own_missed : (o : Option Found) → b₂.at ≡ 2 ^ 64 - 1 → Finds o (best_above wide r w (i + 1) n) → Finds o (best_tree wide r w n)
+    pub own_missed : (o : Option Found) → b₂.at ≡ 2 ^ 64 - 1 → IsFind o (best_above wide r w (i + 1) n) → IsFind o (best_tree wide r w n)
     unfolding best_tree
     own_missed o m f = rw (ne_eqb (link_of tree r (tree_index n)) (2 ^ 64 - 1) there, own_is, eq-eqb b₂.at (2 ^ 64 - 1) m, sym e) f
 

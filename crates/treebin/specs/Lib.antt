@@ -2,7 +2,7 @@
 pub mod TreeBytes
 pub mod Seats
 pub mod SearchBytes
-pub mod Finds
+pub mod Found
 pub mod Binning
 pub mod WayDown
 pub mod TreeHeld

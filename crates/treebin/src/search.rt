@@ -3,7 +3,7 @@
 
 ghost use Rattle.std.specs.Prelude.{◌≡◌, ◌+◌};
 ghost use Rattle.words.specs.Edition.{wide, no_link};
-ghost use Rattle.treebin.specs.Finds.{Finds};
+ghost use Rattle.treebin.specs.Found.{IsFind};
 ghost use Rattle.treebin.specs.SearchBytes.{best, no_best, better_b, leftmost, down_b, passed_by, walked, walk_b, best_above, best_tree};
 
 use crate::insert::{LEVELS, child_word};
@@ -116,14 +116,14 @@ pub fn walk_own(h: &Heap, root: ChunkOff, n: u64, key: u64) -> Way
 
 // What was found, if it is a node.
 fn known(b: Found) -> Option<Found>
-    ensures { Finds result (best b.at.0 b.rsize) }
+    ensures { IsFind result (best b.at.0 b.rsize) }
 {
     if b.at.0 == NONE { None } else { Some(b) }
 }
 
 // The smallest of the first filled tree from bin i on.
 pub fn best_from(h: &Heap, i: u32, n: u64) -> Option<Found>
-    ensures { Finds result (best_above wide h.now.image.now h.now.words.now i n) }
+    ensures { IsFind result (best_above wide h.now.image.now h.now.words.now i n) }
 {
     if i > 31 {
         return None;
@@ -136,7 +136,7 @@ pub fn best_from(h: &Heap, i: u32, n: u64) -> Option<Found>
 
 // The smallest tree chunk that fits, by its remainder.
 pub fn best_tree(h: &Heap, n: u64) -> Option<Found>
-    ensures { Finds result (best_tree wide h.now.image.now h.now.words.now n) }
+    ensures { IsFind result (best_tree wide h.now.image.now h.now.words.now n) }
 {
     let i = compute_tree_index(n);
     let root = h.bin_at::<Tree>(i);

@@ -4,6 +4,6 @@ use Rattle.words.specs.Edition.{wide, no_link}
 use Rattle.treebin.specs.SearchBytes.{Best, best}
 use Rattle.treebin.specs.declared.search.Found.{Found}
 
-abbrev pub Finds : Option Found → Best → Type 0
-Finds None b = b.at ≡ no_link wide
-Finds (Some f) b = (best f.at.0 f.rsize ≡ b) × (b.at ≢ no_link wide)
+abbrev pub IsFind : Option Found → Best → Type 0
+IsFind None b = b.at ≡ no_link wide
+IsFind (Some f) b = (best f.at.0 f.rsize ≡ b) × (b.at ≢ no_link wide)
