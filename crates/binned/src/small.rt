@@ -1,4 +1,6 @@
 // The spare chunk and the small bins: each takes the marks of what it holds.
+#![tactic(auto, using(crate::proofs::SmallCode::laws), unfolding(crate::specs::BinsBytes::dv_ok, crate::specs::BinsBytes::bit_ok, crate::specs::BinsBytes::small_bin_ok))]
+
 ghost use Rattle.std.specs.Prelude.{◌≡◌};
 ghost use Rattle.words.specs.Edition.{wide, no_link};
 ghost use Rattle.marks.specs.Marks.{checked, turns};
@@ -9,7 +11,6 @@ use chunk::image::{DV, DVSIZE, SMALLMAP, Small, bin_at};
 use marks::{Marks, TURNS};
 use tiles::head_is;
 
-#[tactic(auto, unfolding(crate::specs::BinsBytes::dv_ok))]
 pub fn dv_ok(r: &[u64; 72], w: &[u64], m: &mut Marks) -> bool
     ensures { checked result m.new ≡ dv_ok wide r.now w.now m.old }
 {
@@ -22,7 +23,6 @@ pub fn dv_ok(r: &[u64; 72], w: &[u64], m: &mut Marks) -> bool
 }
 
 // Bit i of a map is set exactly where the bin's link is something.
-#[tactic(auto, unfolding(crate::specs::BinsBytes::bit_ok))]
 pub fn bit_ok(map: u64, i: u32, c: ChunkOff) -> bool
     ensures { result ≡ bit_ok wide map i c.0 }
 {
@@ -38,7 +38,6 @@ fn linked_ok(w: &[u64], c: ChunkOff, n: u64, newer: u64) -> bool
 }
 
 // The list from the newest, each of n bytes.
-#[tactic(auto, using(crate::proofs::SmallCode::laws))]
 fn list_ok(w: &[u64], m: &mut Marks, newest: ChunkOff, n: u64) -> bool
     ensures { checked result m.new ≡ list_ok wide w.now n turns newest.0 (no_link wide) m.old }
 {
@@ -57,7 +56,6 @@ fn list_ok(w: &[u64], m: &mut Marks, newest: ChunkOff, n: u64) -> bool
     false
 }
 
-#[tactic(auto, unfolding(crate::specs::BinsBytes::small_bin_ok))]
 fn small_bin_ok(r: &[u64; 72], w: &[u64], m: &mut Marks, i: u32) -> bool
     ensures { checked result m.new ≡ small_bin_ok wide r.now w.now i m.old }
 {
@@ -65,7 +63,6 @@ fn small_bin_ok(r: &[u64; 72], w: &[u64], m: &mut Marks, i: u32) -> bool
     bit_ok(r[SMALLMAP], i, c) && list_ok(w, m, c, 8 * (i as u64))
 }
 
-#[tactic(auto, using(crate::proofs::SmallCode::laws))]
 pub fn small_bins_ok(r: &[u64; 72], w: &[u64], m: &mut Marks) -> bool
     ensures { checked result m.new ≡ small_bins_ok wide r.now w.now m.old }
 {

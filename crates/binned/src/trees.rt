@@ -1,4 +1,6 @@
 // The trees: each takes the marks of its members and of their rings.
+#![tactic(auto, using(crate::proofs::RingsCode::laws, crate::proofs::RingsCode::width_is, crate::proofs::TreesCode::laws), unfolding(crate::specs::BinsBytes::member_ok, crate::specs::BinsBytes::node_fits, crate::specs::BinsBytes::node_ok, crate::specs::BinsBytes::tree_bin_ok))]
+
 ghost use Rattle.std.specs.Prelude.{◌≡◌, true, ◌+◌, ◌*◌, ◌^◌, ◌≤◌, ◌<◌};
 ghost use Rattle.words.specs.Edition.{wide};
 ghost use Rattle.tries.specs.Bits.{wid};
@@ -31,7 +33,6 @@ fn childless(w: &[u64], c: ChunkOff) -> bool
 }
 
 // Another member c of a ring of n bytes in bin i, behind last.
-#[tactic(auto, unfolding(crate::specs::BinsBytes::member_ok))]
 fn member_ok(w: &[u64], c: ChunkOff, i: u32, n: u64, last: u64) -> bool
     ensures { result ≡ member_ok wide w.now i n last c.0 }
 {
@@ -43,7 +44,6 @@ fn member_ok(w: &[u64], c: ChunkOff, i: u32, n: u64, last: u64) -> bool
 }
 
 // The ring of t, of n bytes each; it closes at t.
-#[tactic(auto, using(crate::proofs::RingsCode::laws))]
 fn ring_ok(w: &[u64], m: &mut Marks, t: ChunkOff, i: u32, n: u64) -> bool
     ensures { checked result m.new ≡ ring_ok wide w.now i n t.0 turns (word wide w.now t.0 3) t.0 m.old }
 {
@@ -63,7 +63,6 @@ fn ring_ok(w: &[u64], m: &mut Marks, t: ChunkOff, i: u32, n: u64) -> bool
 }
 
 // The bytes of 2^k words.
-#[tactic(auto, using(crate::proofs::RingsCode::width_is))]
 fn width(k: u32) -> u64
     requires { k ≤ 24 }
     ensures { result ≡ 8 * wid k }
@@ -79,7 +78,6 @@ fn size_fits(sizes: &Marks, h: u64, at: Place) -> bool
 }
 
 // The tree member t fits there.
-#[tactic(auto, unfolding(crate::specs::BinsBytes::node_fits))]
 fn node_fits(w: &[u64], sizes: &Marks, t: ChunkOff, at: Place) -> bool
     ensures { result ≡ node_fits wide w.now at.bin at.bits at.low t.0 at.up sizes.now }
 {
@@ -94,7 +92,6 @@ fn node_size(w: &[u64], t: ChunkOff) -> u64
 }
 
 // A tree member with its ring.
-#[tactic(auto, unfolding(crate::specs::BinsBytes::node_ok))]
 fn node_ok(w: &[u64], m: &mut Marks, sizes: &Marks, t: ChunkOff, at: Place) -> bool
     ensures { checked result m.new ≡ node_ok wide w.now at.bin at.bits at.low t.0 at.up sizes.now m.old }
 {
@@ -141,7 +138,6 @@ fn tree_ok(w: &[u64], m: &mut Marks, sizes: &mut Marks, t: ChunkOff, at: Place) 
     true
 }
 
-#[tactic(auto, using(crate::proofs::TreesCode::laws), unfolding(crate::specs::BinsBytes::tree_bin_ok))]
 fn tree_bin_ok(r: &[u64; 72], w: &[u64], m: &mut Marks, sizes: &mut Marks, i: u32) -> bool
     requires { i < 32 }
     ensures marks { checked result m.new ≡ tree_bin_ok wide r.now w.now sizes.old i m.old }
@@ -157,7 +153,6 @@ fn tree_bin_ok(r: &[u64; 72], w: &[u64], m: &mut Marks, sizes: &mut Marks, i: u3
     bit_ok(r[TREEMAP], i, t) && tree_ok(w, m, sizes, t, root)
 }
 
-#[tactic(auto, using(crate::proofs::TreesCode::laws))]
 pub fn tree_bins_ok(r: &[u64; 72], w: &[u64], m: &mut Marks) -> bool
     ensures { checked result m.new ≡ tree_bins_ok wide r.now w.now m.old }
 {

@@ -1,5 +1,5 @@
 // The words of a live block, lent to its owner as a part of the arena. Total: where the call refuses, the part is empty.
-#![tactic(auto)]
+#![tactic(auto, using(crate::proofs::LendCode::laws, crate::proofs::LendCode::set_past), unfolding(crate::specs::LendBytes::lends_b, crate::specs::LendBytes::lent_from, crate::specs::LendBytes::lent_words, crate::specs::LendBytes::fits_b))]
 
 ghost use Rattle.std.specs.Prelude.{◌≡◌, ◌+◌, ◌*◌, set};
 ghost use Rattle.words.specs.Edition.{wide};
@@ -11,7 +11,6 @@ use sound::{live_block, sound, usable_size, words_ok};
 use std::ops::Range;
 
 // The count is allowed, the pair is sound, and a live block starts at this offset.
-#[tactic(auto, unfolding(crate::specs::LendBytes::lends_b))]
 fn lends(r: &[u64; 72], w: &[u64], b: BlockOff) -> bool
     ensures { result ≡ lends_b wide r.now w.now b.0 }
 {
@@ -19,7 +18,6 @@ fn lends(r: &[u64; 72], w: &[u64], b: BlockOff) -> bool
 }
 
 // The part that is lent: its words' indexes in the arena.
-#[tactic(auto, unfolding(crate::specs::LendBytes::lent_from, crate::specs::LendBytes::lent_words, crate::specs::LendBytes::fits_b))]
 pub fn part(r: &[u64; 72], w: &[u64], b: BlockOff) -> Range<usize>
     ensures from { result.start ≡ lent_from wide r.now w.now b.0 }
     ensures words { result.end ≡ lent_from wide r.now w.now b.0 + lent_words wide r.now w.now b.0 }
@@ -37,7 +35,6 @@ pub fn part(r: &[u64; 72], w: &[u64], b: BlockOff) -> Range<usize>
 }
 
 // The owner's words, lent: empty where the call refuses. The clauses on `ptr` say where they lie in the arena.
-#[tactic(auto, using(crate::proofs::LendCode::laws))]
 pub fn lend<'a>(r: &[u64; 72], w: &'a mut [u64], b: BlockOff) -> &'a mut [u64]
     ensures words { result.now ≡ lent wide r.now w.old b.0 }
     ensures block { result.ref_ptr.0 ≡ w.entry.ref_ptr.0 }
@@ -48,7 +45,6 @@ pub fn lend<'a>(r: &[u64; 72], w: &'a mut [u64], b: BlockOff) -> &'a mut [u64]
 }
 
 // Nothing is written past the end. (After `get_mut` a proof would know the slice's length alone.)
-#[tactic(auto, using(crate::proofs::LendCode::set_past))]
 fn put_at(s: &mut [u64], i: usize, v: u64)
     ensures { s.new ≡ set s.old i v }
 {
@@ -58,7 +54,6 @@ fn put_at(s: &mut [u64], i: usize, v: u64)
 }
 
 // An owner's store: its words are lent to a call and come back; every other word is as it was.
-#[tactic(auto, using(crate::proofs::LendCode::laws))]
 pub fn store(r: &[u64; 72], w: &mut [u64], b: BlockOff, i: usize, v: u64)
     ensures { w.new ≡ back wide r.now w.old b.0 (set (lent wide r.now w.old b.0) i v) }
 {

@@ -1,6 +1,6 @@
 // A set of granules of 16 bytes, a bit each, in a bitmap of fixed size. An offset that is no granule, or lies past the set, is in no set,
 // and nothing changes for it.
-#![tactic(auto)]
+#![tactic(auto, using(crate::proofs::MarksCode::in_set_lem), unfolding(crate::specs::Marks::holdable, crate::specs::Marks::no_marks, crate::specs::Marks::held_bit, crate::specs::Marks::has_mark, crate::specs::Marks::lacks_mark, crate::specs::Marks::set_mark, crate::specs::Marks::drop_mark, crate::specs::Marks::take_mark))]
 
 ghost use Rattle.std.specs.Prelude.{◌≡◌, ◌%◌};
 ghost use Rattle.words.specs.Edition.{wide};
@@ -31,7 +31,6 @@ impl Model for Marks {
     ghost view = { λ m. m.words };
 }
 
-#[tactic(auto, unfolding(crate::specs::Marks::holdable))]
 fn holdable(off: u64) -> bool
     ensures { result ≡ holdable wide off }
 {
@@ -39,7 +38,6 @@ fn holdable(off: u64) -> bool
 }
 
 impl Marks {
-    #[tactic(auto, unfolding(crate::specs::Marks::no_marks))]
     pub fn new() -> Marks
         ensures { result ≡ no_marks }
     {
@@ -49,7 +47,6 @@ impl Marks {
     }
 
     // The bit of a granule that the set can hold.
-    #[tactic(auto, using(crate::proofs::MarksCode::in_set_lem), unfolding(crate::specs::Marks::held_bit))]
     fn bit(&self, off: u64) -> Option<u64>
         ensures { result ≡ held_bit wide self.now off }
     {
@@ -61,7 +58,6 @@ impl Marks {
         }
     }
 
-    #[tactic(auto, unfolding(crate::specs::Marks::has_mark, crate::specs::Marks::held_bit))]
     pub fn has(&self, off: u64) -> bool
         ensures { result ≡ has_mark wide self.now off }
     {
@@ -69,14 +65,12 @@ impl Marks {
     }
 
     // It is a granule, and not in the set.
-    #[tactic(auto, unfolding(crate::specs::Marks::lacks_mark, crate::specs::Marks::held_bit))]
     pub fn lacks(&self, off: u64) -> bool
         ensures { result ≡ lacks_mark wide self.now off }
     {
         self.bit(off) == Some(0)
     }
 
-    #[tactic(auto, using(crate::proofs::MarksCode::in_set_lem), unfolding(crate::specs::Marks::set_mark))]
     pub fn insert(&mut self, off: u64)
         ensures { self.new ≡ set_mark wide self.old off }
     {
@@ -86,7 +80,6 @@ impl Marks {
         }
     }
 
-    #[tactic(auto, using(crate::proofs::MarksCode::in_set_lem), unfolding(crate::specs::Marks::drop_mark))]
     pub fn remove(&mut self, off: u64)
         ensures { self.new ≡ drop_mark wide self.old off }
     {
@@ -97,7 +90,6 @@ impl Marks {
     }
 
     // Takes it out of the set; false where it is not in it.
-    #[tactic(auto, unfolding(crate::specs::Marks::take_mark))]
     pub fn take(&mut self, off: u64) -> bool
         ensures { checked result self.new ≡ take_mark wide self.old off }
     {

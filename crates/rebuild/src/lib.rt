@@ -1,6 +1,6 @@
 // Document 02, (xiii): the rebuild after a lost record. One walk of the heads finds the top, a second enters the free chunks into their
 // bins, from the lowest offset up. Total: any words have an answer. The record that it makes stands as 72 words.
-#![tactic(auto)]
+#![tactic(auto, using(crate::proofs::RebuildCode::laws), unfolding(crate::specs::RebuildBytes::top_here, crate::specs::RebuildBytes::top_of, crate::specs::RebuildBytes::enter_b, crate::specs::RebuildBytes::empty_image, crate::specs::RebuildBytes::allowed_start, crate::specs::RebuildBytes::rebuild_b))]
 
 ghost use Rattle.std.specs.Prelude.{◌≡◌, true};
 ghost use Rattle.words.specs.Edition.{wide};
@@ -24,7 +24,6 @@ pub enum RebuildError {
 }
 
 // The top stands at p and ends at end. pu: the chunk before is in use.
-#[tactic(auto, unfolding(crate::specs::RebuildBytes::top_here))]
 fn top_here(w: &[u64], end: u64, p: u64, pu: bool) -> bool
     ensures { result ≡ top_here wide w.now end p pu }
 {
@@ -32,7 +31,6 @@ fn top_here(w: &[u64], end: u64, p: u64, pu: bool) -> bool
 }
 
 // Chunks from 0 up to the top: its offset.
-#[tactic(auto, using(crate::proofs::RebuildCode::laws))]
 fn seek_top(w: &[u64], end: u64) -> Option<u64>
     ensures { result ≡ place_of wide (seek_top wide w.now end turns 0 true) }
 {
@@ -50,7 +48,6 @@ fn seek_top(w: &[u64], end: u64) -> Option<u64>
 }
 
 // The foot word, and the walk.
-#[tactic(auto, unfolding(crate::specs::RebuildBytes::top_of))]
 fn find_top(w: &[u64], end: u64) -> Option<u64>
     ensures { result ≡ place_of wide (top_of wide w.now end) }
 {
@@ -62,7 +59,6 @@ fn find_top(w: &[u64], end: u64) -> Option<u64>
 }
 
 // A free chunk goes into its bin.
-#[tactic(auto, unfolding(crate::specs::RebuildBytes::enter_b))]
 fn enter(h: &mut Heap, p: ChunkOff, n: u64)
     ensures { Becomes h.old h.new (enter_b wide h.old.image.now h.old.words.now p.0 n) }
 {
@@ -72,7 +68,6 @@ fn enter(h: &mut Heap, p: ChunkOff, n: u64)
 }
 
 // The chunks from 0 to the top, in address order.
-#[tactic(auto, using(crate::proofs::RebuildCode::laws))]
 fn fill(h: &mut Heap, top: u64)
     ensures { Becomes h.old h.new (fill_from wide top turns 0 h.old.image.now h.old.words.now) }
 {
@@ -89,7 +84,6 @@ fn fill(h: &mut Heap, top: u64)
 }
 
 // Every bin empty, no dv.
-#[tactic(auto, unfolding(crate::specs::RebuildBytes::empty_image))]
 fn empty_image(top: u64, topsize: u64, length: u64) -> [u64; 72]
     ensures { result ≡ empty_image wide top topsize length }
 {
@@ -105,7 +99,6 @@ fn empty_image(top: u64, topsize: u64, length: u64) -> [u64; 72]
 }
 
 // Set-up's starts: 0 alone, until request (iv).
-#[tactic(auto, unfolding(crate::specs::RebuildBytes::allowed_start))]
 fn start_ok(start: u64) -> bool
     ensures { result ≡ allowed_start start }
 {
@@ -113,7 +106,6 @@ fn start_ok(start: u64) -> bool
 }
 
 // A refusal changes no word; its record is set-up's empty one.
-#[tactic(auto, using(crate::proofs::RebuildCode::laws), unfolding(crate::specs::RebuildBytes::rebuild_b))]
 pub fn rebuild(w: &mut [u64], start: u64) -> Result<[u64; 72], RebuildError>
     ensures { rebuilt (refusal_of result) (image_or_empty wide result) w.new ≡ rebuild_b wide w.old start }
 {

@@ -1,6 +1,6 @@
 // Port order 9: the check, and which blocks are live in what it has accepted. Total: any record and any words have an answer.
 // One walk of the heads marks the free chunks; each bin is walked once and takes the marks of what it holds; at the end none is left.
-#![tactic(auto)]
+#![tactic(auto, using(crate::proofs::SoundCode::laws), unfolding(crate::specs::SoundBytes::count_ok, crate::specs::SoundBytes::record_ok, crate::specs::SoundBytes::bins_ok, crate::specs::SoundBytes::sound_b, crate::specs::SoundBytes::live_b, crate::specs::SoundBytes::usable_b))]
 
 ghost use Rattle.std.specs.Prelude.{◌≡◌};
 ghost use Rattle.words.specs.Edition.{wide};
@@ -19,7 +19,6 @@ use tiles::{top_ok, walk};
 const MAP_END: u64 = 1 << 32;
 
 // An even number of words from 16 to 8,192.
-#[tactic(auto, unfolding(crate::specs::SoundBytes::count_ok))]
 pub fn words_ok(n: usize) -> bool
     ensures { result ≡ count_ok n }
 {
@@ -27,7 +26,6 @@ pub fn words_ok(n: usize) -> bool
 }
 
 // The record's length, and maps of 32 bits.
-#[tactic(auto, unfolding(crate::specs::SoundBytes::record_ok))]
 fn record_ok(r: &[u64; 72], length: u64) -> bool
     ensures { result ≡ record_ok r.now length }
 {
@@ -35,7 +33,6 @@ fn record_ok(r: &[u64; 72], length: u64) -> bool
 }
 
 // Every mark is taken by the spare chunk, a small bin or a tree.
-#[tactic(auto, unfolding(crate::specs::SoundBytes::bins_ok))]
 fn bins_ok(r: &[u64; 72], w: &[u64], m: &mut Marks) -> bool
     ensures { checked result m.new ≡ bins_ok wide r.now w.now m.old }
 {
@@ -50,7 +47,6 @@ fn chunks_ok(r: &[u64; 72], w: &[u64]) -> bool
     walk(w, r[TOP], &mut m) && bins_ok(r, w, &mut m)
 }
 
-#[tactic(auto, unfolding(crate::specs::SoundBytes::sound_b))]
 pub fn sound(r: &[u64; 72], w: &[u64]) -> bool
     ensures { result ≡ sound_b wide r.now w.now }
 {
@@ -59,7 +55,6 @@ pub fn sound(r: &[u64; 72], w: &[u64]) -> bool
 }
 
 // A chunk in use starts at c.
-#[tactic(auto, using(crate::proofs::SoundCode::laws))]
 fn starts_at(w: &[u64], c: u64) -> bool
     ensures { result ≡ starts_at wide w.now turns 0 c }
 {
@@ -78,7 +73,6 @@ fn starts_at(w: &[u64], c: u64) -> bool
 }
 
 // A live block starts at this offset.
-#[tactic(auto, unfolding(crate::specs::SoundBytes::live_b))]
 pub fn live_block(w: &[u64], top: u64, b: BlockOff) -> bool
     ensures { result ≡ live_b wide w.now top b.0 }
 {
@@ -86,7 +80,6 @@ pub fn live_block(w: &[u64], top: u64, b: BlockOff) -> bool
 }
 
 // The bytes of a live block that are its owner's.
-#[tactic(auto, unfolding(crate::specs::SoundBytes::usable_b))]
 pub fn usable_size(w: &[u64], b: BlockOff) -> u64
     ensures { result ≡ usable_b wide w.now b.0 }
 {

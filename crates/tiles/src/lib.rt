@@ -1,5 +1,5 @@
 // The tiling: the chunks from 0 to the top, and the top. One walk of the heads marks the free chunks.
-#![tactic(auto)]
+#![tactic(auto, using(crate::proofs::TilesCode::laws), unfolding(crate::specs::TilesBytes::top_ok, crate::specs::TilesBytes::chunk_at))]
 
 ghost use Rattle.std.specs.Prelude.{◌≡◌, true};
 ghost use Rattle.words.specs.Edition.{wide};
@@ -26,7 +26,6 @@ pub fn head_is(w: &[u64], c: ChunkOff, n: u64) -> bool
 }
 
 // The top, its head and the foot word.
-#[tactic(auto, unfolding(crate::specs::TilesBytes::top_ok))]
 pub fn top_ok(r: &[u64; 72], w: &[u64], length: u64) -> bool
     ensures { result ≡ top_ok wide r.now w.now length }
 {
@@ -62,7 +61,6 @@ fn free_ok(w: &[u64], pu: bool, f: u64, n: u64, next: ChunkOff) -> bool
 }
 
 // The chunk at p, if one fits there. pu: the chunk before is in use.
-#[tactic(auto, unfolding(crate::specs::TilesBytes::chunk_at))]
 pub fn chunk_at(w: &[u64], p: u64, pu: bool, top: u64) -> Option<Tile>
     ensures { result ≡ tile_of (chunk_at wide w.now p pu top) }
 {
@@ -78,7 +76,6 @@ pub fn chunk_at(w: &[u64], p: u64, pu: bool, top: u64) -> Option<Tile>
 }
 
 // Chunks tile 0 to the top, the last of them in use; the free ones are marked.
-#[tactic(auto, using(crate::proofs::TilesCode::laws))]
 pub fn walk(w: &[u64], top: u64, m: &mut Marks) -> bool
     ensures { checked result m.new ≡ walk_heads wide w.now top turns 0 true m.old }
 {
