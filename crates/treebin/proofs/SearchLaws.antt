@@ -84,33 +84,33 @@ module _ (w : List ℕ) (t key rest : ℕ) {s : ℕ} (e : s ≡ side 64 key) whe
 abbrev walk_all : List ℕ → ℕ → ℕ → ℕ → Walked
 walk_all w n root key = walk_b wide w n 64 root key (no_link wide) (no_best wide)
 
-pub record Walk (w : List ℕ) (n root key t k rest : ℕ) (b : Best) (j : ℕ) : Type 0 where
-  pub low : j ≤ 64
-  pub same : walk_all w n root key ≡ walk_b wide w n (64 - j) t k rest b
+pub record Walk (w : List ℕ) (n root key t k rest : ℕ) (b : Best) (left : ℕ) : Type 0 where
+  pub low : left ≤ 64
+  pub same : walk_all w n root key ≡ walk_b wide w n left t k rest b
 
-pub walk_begin : (w : List ℕ) (n root key : ℕ) {b : Best} → b ≡ no_best wide → Walk w n root key root key (2 ^ 64 - 1) b 0
+pub walk_begin : (w : List ℕ) (n root key : ℕ) {b : Best} → b ≡ no_best wide → Walk w n root key root key (2 ^ 64 - 1) b 64
 walk_begin w n root key e = record { low = omega arith; same = ap (walk_b wide w n 64 root key (no_link wide)) (sym e) }
 
 -- one level of the definition, b₁ being the better of b and the node
-walk_step : (w : List ℕ) (n j t k rest : ℕ) (b b₁ : Best) → b₁ ≡ better_b n t (size_b wide w t) b → j < 64
-    → walk_b wide w n (64 - j) t k rest b
+walk_step : (w : List ℕ) (n left t k rest : ℕ) (b b₁ : Best) → b₁ ≡ better_b n t (size_b wide w t) b → 0 < left
+    → walk_b wide w n left t k rest b
     ≡ pick (eqb b₁.rsize 0) (walked b₁ (no_link wide))
     (pick (eqb (word wide w t (child_word wide k)) (no_link wide)) (walked b₁ (passed_by wide w t k rest))
-    (walk_b wide w n (64 - (j + 1)) (word wide w t (child_word wide k)) (next_key wide k) (passed_by wide w t k rest) b₁))
+    (walk_b wide w n (left - 1) (word wide w t (child_word wide k)) (next_key wide k) (passed_by wide w t k rest) b₁))
 unfolding walk_b
-walk_step w n j t k rest b b₁ e l = rw e (ap (λ x. walk_b wide w n x t k rest b) (let z : 64 - j ≡ suc (64 - (j + 1)) = omega arith in z))
+walk_step w n left t k rest b b₁ e l = rw e (ap (λ x. walk_b wide w n x t k rest b) (let z : left ≡ suc (left - 1) = omega arith in z))
 
-module _ (w : List ℕ) (n root key t k rest : ℕ) (b : Best) (j : ℕ) (v : Walk w n root key t k rest b j) where
-  pub walk_out : 64 ≤ j → walked b rest ≡ walk_all w n root key
+module _ (w : List ℕ) (n root key t k rest : ℕ) (b : Best) (left : ℕ) (v : Walk w n root key t k rest b left) where
+  pub walk_out : left ≡ 0 → walked b rest ≡ walk_all w n root key
   unfolding walk_b
-  walk_out l = sym (v.same ∙ ap (λ x. walk_b wide w n x t k rest b) (let z : 64 - j ≡ 0 = omega arith in z))
+  walk_out q = sym (v.same ∙ ap (λ x. walk_b wide w n x t k rest b) q)
 
-  module _ {s : ℕ} {b₁ : Best} (l : j < 64) (e₁ : s ≡ size_b wide w t) (e₂ : b₁ ≡ better_b n t s b) where
+  module _ {s : ℕ} {b₁ : Best} (l : left ≡ 0 → ⊥) (e₁ : s ≡ size_b wide w t) (e₂ : b₁ ≡ better_b n t s b) where
     level : walk_all w n root key
         ≡ pick (eqb b₁.rsize 0) (walked b₁ (no_link wide))
         (pick (eqb (word wide w t (child_word wide k)) (no_link wide)) (walked b₁ (passed_by wide w t k rest))
-        (walk_b wide w n (64 - (j + 1)) (word wide w t (child_word wide k)) (next_key wide k) (passed_by wide w t k rest) b₁))
-    level = v.same ∙ walk_step w n j t k rest b b₁ (e₂ ∙ ap (λ x. better_b n t x b) e₁) (omega arith)
+        (walk_b wide w n (left - 1) (word wide w t (child_word wide k)) (next_key wide k) (passed_by wide w t k rest) b₁))
+    level = v.same ∙ walk_step w n left t k rest b b₁ (e₂ ∙ ap (λ x. better_b n t x b) e₁) (omega arith)
 
     pub walk-found : b₁.rsize ≡ 0 → walked b₁ (no_link wide) ≡ walk_all w n root key
     walk-found q = rw (level, eq-eqb b₁.rsize 0 q) refl
@@ -122,10 +122,10 @@ module _ (w : List ℕ) (n root key t k rest : ℕ) (b : Best) (j : ℕ) (v : Wa
       pub walk_end : c ≡ 2 ^ 64 - 1 → walked b₁ p ≡ walk_all w n root key
       walk_end m = rw (level, ne_eqb b₁.rsize 0 q, eq-eqb (word wide w t (child_word wide k)) (2 ^ 64 - 1) (sym child ∙ m)) (ap (walked b₁) e₃)
 
-      walk_next : {k₁ : ℕ} → (c ≡ 2 ^ 64 - 1 → ⊥) → k₁ ≡ k * 2 % 2 ^ 64 → walk_all w n root key ≡ walk_b wide w n (64 - (j + 1)) c k₁ p b₁
+      walk_next : {k₁ : ℕ} → (c ≡ 2 ^ 64 - 1 → ⊥) → k₁ ≡ k * 2 % 2 ^ 64 → walk_all w n root key ≡ walk_b wide w n (left - 1) c k₁ p b₁
       walk_next m e₆ = rw (level, ne_eqb b₁.rsize 0 q, ne_eqb (word wide w t (child_word wide k)) (2 ^ 64 - 1) (λ z. m (child ∙ z))) (cc)
 
-      pub walk_turn : {k₁ : ℕ} → (c ≡ 2 ^ 64 - 1 → ⊥) → k₁ ≡ k * 2 % 2 ^ 64 → Walk w n root key c k₁ p b₁ (j + 1)
+      pub walk_turn : {k₁ : ℕ} → (c ≡ 2 ^ 64 - 1 → ⊥) → k₁ ≡ k * 2 % 2 ^ 64 → Walk w n root key c k₁ p b₁ (left - 1)
       walk_turn m e₆ = record { low = omega (arith, v.low); same = walk_next m e₆ }
 
 -- ---- the best tree chunk: in the need's own tree, else in the next filled one

@@ -88,7 +88,8 @@ fn passed_by(h: &Heap, t: ChunkOff, key: u64, before: ChunkOff) -> ChunkOff
 }
 
 // The way of a size down its own tree: the best on it, and the deepest right subtree passed by.
-// At remainder zero it stops at once, and there is nothing left to look at.
+// At remainder zero it stops at once, and there is nothing left to look at. Document 01 names the form: a loop left by a break with the
+// best node, which a `for` can't be.
 pub fn walk_own(h: &Heap, root: ChunkOff, n: u64, key: u64) -> Way
     ensures { walked (best result.found.at.0 result.found.rsize) result.rest.0 ≡ walk_b wide h.now.words.now n 64 root.0 key (no_link wide) (no_best wide) }
 {
@@ -96,10 +97,14 @@ pub fn walk_own(h: &Heap, root: ChunkOff, n: u64, key: u64) -> Way
     let mut b = no_best();
     let mut rest = ChunkOff(NONE);
     let mut k = key;
-    for _ in 0..LEVELS {
+    let mut left = LEVELS;
+    let way = loop {
+        if left == 0 {
+            break Way { found: b, rest };
+        }
         b = better(b, t, h.size(t), n);
         if b.rsize == 0 {
-            return Way {
+            break Way {
                 found: b,
                 rest: ChunkOff(NONE),
             };
@@ -107,11 +112,12 @@ pub fn walk_own(h: &Heap, root: ChunkOff, n: u64, key: u64) -> Way
         rest = passed_by(h, t, k, rest);
         t = h.link(t, child_word(k));
         if t.0 == NONE {
-            break;
+            break Way { found: b, rest };
         }
         k = next_key(k);
-    }
-    Way { found: b, rest }
+        left -= 1;
+    };
+    way
 }
 
 // What was found, if it is a node.
