@@ -1,6 +1,6 @@
 // An arena's words and its record, and the calls on them, each with its line.
-use crate::say::{Bytes, line, record};
-use arena::answers::Reply;
+use crate::say::{Bytes, granted, line, record};
+use arena::answers::{Reason, Reply};
 use arena::control::Control;
 use chunk::access::BlockOff;
 use std::io;
@@ -33,41 +33,33 @@ impl<'a> Heap<'a> {
         Ok(Heap { words, control })
     }
 
-    pub fn malloc(&mut self, rt: &impl Print, bytes: u64) -> io::Result<()> {
-        let Reply { answer, control } = arena::malloc(self.control, self.words, bytes);
+    // The answer of a call that hands a record back.
+    fn ask<T, F: FnOnce(Control, &mut [u64]) -> Reply<T>>(&mut self, call: F) -> Result<T, Reason>
+        requires { F.IsAlwaysCallable call }
+    {
+        let Reply { answer, control } = call(self.control, self.words);
         self.control = control;
-        line(rt, &format_args!("malloc {bytes}"), answer.map(|b| b.0))
+        answer
+    }
+
+    pub fn malloc(&mut self, rt: &impl Print, bytes: u64) -> io::Result<()> {
+        let block = self.ask(|c, w| arena::malloc(c, w, bytes));
+        granted(rt, &format_args!("malloc {bytes}"), block)
     }
 
     pub fn free(&mut self, rt: &impl Print, block: u64) -> io::Result<()> {
-        let Reply { answer, control } = arena::free(self.control, self.words, BlockOff(block));
-        self.control = control;
-        line(rt, &format_args!("free {block}"), answer.map(|_| "done"))
+        let done = self.ask(|c, w| arena::free(c, w, BlockOff(block)));
+        line(rt, &format_args!("free {block}"), done.map(|_| "done"))
     }
 
     pub fn realloc(&mut self, rt: &impl Print, block: u64, bytes: u64) -> io::Result<()> {
-        let Reply { answer, control } = arena::realloc(
-            self.control,
-            self.words,
-            BlockOff(block),
-            bytes,
-        );
-        self.control = control;
-        line(
-            rt,
-            &format_args!("realloc {block} to {bytes}"),
-            answer.map(|b| b.0),
-        )
+        let moved = self.ask(|c, w| arena::realloc(c, w, BlockOff(block), bytes));
+        granted(rt, &format_args!("realloc {block} to {bytes}"), moved)
     }
 
     pub fn memalign(&mut self, rt: &impl Print, alignment: u64, bytes: u64) -> io::Result<()> {
-        let Reply { answer, control } = arena::memalign(self.control, self.words, alignment, bytes);
-        self.control = control;
-        line(
-            rt,
-            &format_args!("memalign {alignment}, {bytes}"),
-            answer.map(|b| b.0),
-        )
+        let block = self.ask(|c, w| arena::memalign(c, w, alignment, bytes));
+        granted(rt, &format_args!("memalign {alignment}, {bytes}"), block)
     }
 
     pub fn usable(&self, rt: &impl Print, block: u64) -> io::Result<()> {

@@ -1,7 +1,7 @@
 // The lines on standard output: a call with its answer, and where the record stands.
 use arena::answers::Reason;
 use arena::control::Control;
-use chunk::access::NONE;
+use chunk::access::{BlockOff, NONE};
 use std::fmt::Display;
 use std::{fmt, io};
 
@@ -58,6 +58,15 @@ pub fn line<T: Display + Drop>(
         Ok(value) => println!(rt; "{call} -> {value}"),
         Err(why) => println!(rt; "{call} -> {}", Refusal(why)),
     }
+}
+
+// The line of a call that grants a block: where it starts.
+pub fn granted(
+    rt: &impl Print,
+    call: &impl Display,
+    answer: Result<BlockOff, Reason>,
+) -> io::Result<()> {
+    line(rt, call, answer.map(|b| b.0))
 }
 
 pub fn record(rt: &impl Print, c: Control) -> io::Result<()> {

@@ -9,14 +9,29 @@ pub enum Call {
     Memalign { alignment: u64, bytes: u64 },
 }
 
-// What the crate answered, and its top and its spare chunk after the call; 0 0 where there is no spare chunk.
+// A spare chunk: where it lies, and its bytes.
+#[derive(Clone, Copy, PartialEq, Eq)]
+pub struct Spare {
+    at: u64,
+    bytes: u64,
+}
+
+impl Spare {
+    // A line has 0 0 where there is none.
+    pub fn from_numbers(at: u64, bytes: u64) -> Option<Spare> {
+        match (at, bytes) {
+            (0, 0) => None,
+            _ => Some(Spare { at, bytes }),
+        }
+    }
+}
+
+// What the crate answered, a block's offset or a refusal's number, and its top and its spare chunk after the call.
 #[derive(Clone, Copy)]
 pub struct Told {
-    pub refusal: u64,
-    pub offset: u64,
+    pub answer: Result<BlockOff, u64>,
     pub topsize: u64,
-    pub dv: u64,
-    pub dvsize: u64,
+    pub spare: Option<Spare>,
 }
 
 #[derive(Clone, Copy)]
@@ -53,11 +68,12 @@ impl From<[u64; 8]> for Entry {
             },
         };
         let told = Told {
-            refusal,
-            offset,
+            answer: match refusal {
+                0 => Ok(BlockOff(offset)),
+                _ => Err(refusal),
+            },
             topsize,
-            dv,
-            dvsize,
+            spare: Spare::from_numbers(dv, dvsize),
         };
         Entry::Call(call, told)
     }

@@ -1,7 +1,7 @@
 // The lines of the record, played: each is a call, or a look at the heap, held against the crate's numbers.
 ghost use Rattle.std.specs.Prelude.{◌≤◌};
 
-use crate::entry::{Call, Entry, Told};
+use crate::entry::{Call, Entry, Spare, Told};
 use crate::look::{chunks_below, heap_sum, owned_sum};
 use crate::tally::Tally;
 use crate::text::Line;
@@ -71,19 +71,11 @@ impl Player {
         }
     }
 
-    // Too few words are no arena, and then nothing is the crate's; nor are more than there are.
+    // Without an arena nothing is the crate's.
     fn play(&mut self, entry: Entry) {
-        if let Entry::SetUp { words, .. } = entry {
-            self.call = 0;
-            let n = (words % 65536) as usize;
-            self.arena = if n <= 8192 { n } else { 0 };
-        }
-        if self.arena < 16 {
-            self.tally.note(false);
-            return;
-        }
         match entry {
-            Entry::SetUp { topsize, .. } => self.set_up(topsize),
+            Entry::SetUp { words, topsize } => self.set_up(words, topsize),
+            _ if self.arena < 16 => self.tally.note(false),
             Entry::Call(call, told) => self.ask(call, told),
             Entry::Look {
                 chunks,
@@ -93,7 +85,15 @@ impl Player {
         }
     }
 
-    fn set_up(&mut self, topsize: u64) {
+    // Too few words are no arena, nor are more than there are.
+    fn set_up(&mut self, words: u64, topsize: u64) {
+        self.call = 0;
+        let n = (words % 65536) as usize;
+        self.arena = if n <= 8192 { n } else { 0 };
+        if self.arena < 16 {
+            self.tally.note(false);
+            return;
+        }
         let words = &mut self.words[..];
         let reply = arena::setup(&mut words[..self.arena]);
         self.record = image_of(reply.control);
@@ -113,8 +113,8 @@ impl Player {
         self.tally.calls = sum(self.tally.calls, 1);
         self.call(call, told);
         self.tally.note(told.topsize == self.record[TOPSIZE]);
-        let same = self.spare_is(told);
-        self.tally.note(same);
+        let spare = self.spare();
+        self.tally.note(told.spare == spare);
     }
 
     fn call(&mut self, call: Call, told: Told) {
@@ -151,28 +151,28 @@ impl Player {
 
     fn answered(&mut self, answer: Result<(), Reason>, told: Told) {
         match answer {
-            Ok(()) => self.tally.note(told.refusal == 0),
+            Ok(()) => self.tally.note(told.answer.is_ok()),
             Err(why) => self.refused(why, told),
         }
     }
 
     fn granted(&mut self, block: BlockOff, told: Told, held: u64) {
         self.tally.grants = sum(self.tally.grants, 1);
-        self.tally.note(told.refusal == 0 && told.offset == block.0);
+        self.tally.note(told.answer == Ok(block));
         let words = &mut self.words[..];
         mark(&mut words[..self.arena], from_mem(block), held, self.call);
     }
 
     fn refused(&mut self, why: Reason, told: Told) {
         self.tally.refusals = sum(self.tally.refusals, 1);
-        self.tally.note(told.refusal == number(why));
+        self.tally.note(told.answer == Err(number(why)));
     }
 
-    fn spare_is(&self, told: Told) -> bool {
-        if self.record[DV] == NONE {
-            told.dv == 0 && told.dvsize == 0
-        } else {
-            told.dv == self.record[DV] && told.dvsize == self.record[DVSIZE]
+    // The spare chunk, as a line says it.
+    fn spare(&self) -> Option<Spare> {
+        match self.record[DV] {
+            NONE => None,
+            dv => Spare::from_numbers(dv, self.record[DVSIZE]),
         }
     }
 }
