@@ -1,5 +1,6 @@
 -- The C functions: what was lent, the record's words in and out, and one law for each return of a call. Assumes nothing.
-use Rattle.std.proofs.Common.{◌≡◌, ℕ, ◌+◌, ◌/◌, ◌≤◌, Bool, true, false, ◌&&◌, leb, eqb, List, length, get_or, set, refl, sym, ap, ◌∙◌, arith, eq-eqb, ne_eqb}
+use Rattle.std.proofs.Common.{◌≡◌, ℕ, ◌+◌, ◌/◌, ◌≤◌, Bool, true, false, ◌&&◌, leb, eqb, List, Some, length, get_or, set, refl, sym, ap, subst, ◌∙◌, arith, eq-eqb, ne_eqb}
+use Rattle.std.proofs.lemmas.Option.{same_Some}
 use borrow.Author.Tests.{leb-true, eqb-true}
 use lib.ListN.{length-set}
 use lib.Seq.{set-get_or}
@@ -18,7 +19,7 @@ use Rattle.arena.specs.declared.answers.Reason.TheVariants.{BadCount, Unsound}
 use Rattle.arena.specs.Answers.{reason_of}
 use Rattle.batch.specs.BatchBytes.{batched, batch_m}
 use Rattle.batch.proofs.BatchLaws.{set_batch}
-use Rattle.abi.specs.Words.{said, value_of, refused_value, out_of, lent_ok, copied, odd_record, tell_c, call_c, set_c, set_up_c, rebuild_c, sound_c}
+use Rattle.abi.specs.Words.{said, Taken, value_of, refused_value, out_of, lent_ok, copied, odd_record, tell_c, call_c, set_c, set_up_c, rebuild_c, sound_c}
 use Rattle.abi.specs.Words.{ran, answered, count_out, tell_batch, batch_c}
 
 -- ---- what was lent
@@ -68,26 +69,51 @@ module _ (n : ℕ) {x : Bool} (e : x ≡ count_ok n) where
 said_same : (w : List ℕ) {n m : ℕ} {r s o u : List ℕ} → n ≡ m → r ≡ s → o ≡ u → said n r w o ≡ said m s w u
 said_same w {m = m} {r = r} {s = s} {o = o} p q t = ap (λ y. said y r w o) p ∙ ap (λ y. said m y w o) q ∙ ap (said m s w) t
 
-module _ (r w out : List ℕ) (k : Call) {x : Bool} (e : x ≡ lent_ok (length r) (length out)) where
-  pub call_lost : x ≡ false → said 2 r w out ≡ call_c r w out k
+module _ (r w out : List ℕ) {x : Bool} (e : x ≡ lent_ok (length r) (length out)) where
+  -- too short
+  pub call_lost : x ≡ false → {m n : ℕ} → m ≡ 2 → Some m ≡ Some n → (k : Call) → said n r w out ≡ call_c r w out k
   unfolding call_c
-  call_lost q = sym (rw (sym e ∙ q) refl)
+  call_lost q {m = m} {n = n} i p k = ap (λ y. said y r w out) (sym (same_Some m n p) ∙ i) ∙ sym (rw (sym e ∙ q) refl)
 
-  module _ (t : x ≡ true) {s : List ℕ} (same : s ≡ r) where
-    spare : get_or s 7 0 ≡ get_or r 7 0
-    spare = ap (λ z. get_or z 7 0) same
+  pub batch_lost : x ≡ false → {m n : ℕ} → m ≡ 2 → Some m ≡ Some n → (cs xs : List ℕ) → ran n r w out xs ≡ batch_c r w out cs xs
+  unfolding batch_c
+  batch_lost q {m = m} {n = n} i p cs xs = ap (λ y. ran y r w out xs) (sym (same_Some m n p) ∙ i) ∙ sym (rw (sym e ∙ q) refl)
 
-    pub call_odd : (a : Answer) {n : ℕ} {o : List ℕ} → (get_or s 7 0 ≡ 0 → ⊥) → a ≡ odd_record (length w) → n ≡ refusal a → o ≡ out_of out a → said n r w o ≡ call_c r w out k
+  -- the eighth word is not 0
+  module _ (t : x ≡ true) (f : get_or r 7 0 ≡ 0 → ⊥) (a : Answer) {m n : ℕ} {o : List ℕ}
+      (i : a ≡ odd_record (length w)) (v : m ≡ refusal a) (q : o ≡ out_of out a) (p : Some m ≡ Some n) where
+    pub call_odd : (k : Call) → said n r w o ≡ call_c r w out k
     unfolding call_c
-    call_odd a f i p q =
-        said_same w (p ∙ ap refusal i) refl (q ∙ ap (out_of out) i) ∙ sym (rw (sym e ∙ t, ne_eqb (get_or r 7 0) 0 (λ z. f (spare ∙ z))) refl)
+    call_odd k = said_same w (sym (same_Some m n p) ∙ v ∙ ap refusal i) refl (q ∙ ap (out_of out) i) ∙ sym (rw (sym e ∙ t, ne_eqb (get_or r 7 0) 0 f) refl)
 
-    pub call_said : (a : Answer) (r' w' : List ℕ) {n : ℕ} {o v : List ℕ} → get_or s 7 0 ≡ 0 → told a r' w' ≡ call_b wide s w k → n ≡ refusal a → v ≡ copied r' → o ≡ out_of out a
-        → said n v w' o ≡ call_c r w out k
-    unfolding call_c
-    call_said a r' w' z c p v q =
-        said_same w' p v q ∙ ap (tell_c out) (c ∙ ap (λ y. call_b wide y w k) same)
-        ∙ sym (rw (sym e ∙ t, eq-eqb (get_or r 7 0) 0 (sym spare ∙ z)) refl)
+    pub batch_odd : (cs xs : List ℕ) → ran n r w o xs ≡ batch_c r w out cs xs
+    unfolding batch_c
+    batch_odd cs xs =
+        ap (λ y. ran y r w o xs) (sym (same_Some m n p) ∙ v ∙ ap refusal i) ∙ ap (λ y. ran (refusal (odd_record (length w))) r w y xs) (q ∙ ap (out_of out) i)
+        ∙ sym (rw (sym e ∙ t, ne_eqb (get_or r 7 0) 0 f) refl)
+
+-- a record that is taken: 72 words, and still two words and more for the answer
+module _ (r out : List ℕ) {o : List ℕ} (t : Taken r out o) where
+  pub taken_72 : length r ≡ 72
+  taken_72 = lent_72 (length r) (length out) refl t.0
+
+  pub taken_2 : 2 ≤ length o
+  taken_2 = subst (λ z. 2 ≤ length z) (sym t.2) (lent_2 (length r) (length out) refl t.0)
+
+module _ (r w out : List ℕ) {o s : List ℕ} (t : Taken r out o) (same : s ≡ r) where
+  pub call_said : (k : Call) (a : Answer) (r' w' : List ℕ) {n : ℕ} {u v : List ℕ} → told a r' w' ≡ call_b wide s w k → n ≡ refusal a → v ≡ copied r' → u ≡ out_of o a
+      → said n v w' u ≡ call_c r w out k
+  unfolding call_c
+  call_said k a r' w' c p v q =
+      said_same w' p v (q ∙ ap (λ y. out_of y a) t.2) ∙ ap (tell_c out) (c ∙ ap (λ y. call_b wide y w k) same) ∙ sym (rw (t.0, eq-eqb (get_or r 7 0) 0 t.1) refl)
+
+  pub batch_ran : (cs xs : List ℕ) (n : ℕ) (r' w' xs' : List ℕ) {m : ℕ} {u v : List ℕ} → batched n r' w' xs' ≡ batch_m wide s w cs xs
+      → v ≡ copied r' → m ≡ n → u ≡ count_out o n (length cs) → ran m v w' u xs' ≡ batch_c r w out cs xs
+  unfolding batch_c
+  batch_ran cs xs n r' w' xs' {u = u} {v = v} b i p q =
+      ap (λ y. ran y v w' u xs') p ∙ ap (λ y. ran n y w' u xs') i ∙ ap (λ y. ran n (copied r') w' y xs') (q ∙ ap (λ y. count_out y n (length cs)) t.2)
+      ∙ ap (tell_batch out (length cs)) (b ∙ ap (λ y. batch_m wide y w cs xs) same ∙ set_batch wide r w cs xs (taken_72 r out t))
+      ∙ sym (rw (t.0, eq-eqb (get_or r 7 0) 0 t.1) refl)
 
 -- a value's two words
 pub granted_out : (out : List ℕ) (a : Answer) {v : ℕ} → v ≡ value_of a → refusal a ≡ 0 → set (set out 0 0) 1 v ≡ out_of out a
@@ -103,17 +129,17 @@ refused_out out why p q = rw (p, q) refl
 copied_same : (r : List ℕ) → length r ≡ 72 → get_or r 7 0 ≡ 0 → r ≡ copied r
 copied_same r l z = sym (ap (set r 7) (sym z) ∙ set-get_or r 7 0) ∙ copied_is r l
 
-pub usable_said : (r w out : List ℕ) (off : ℕ) {x : Bool} (e : x ≡ lent_ok (length r) (length out)) (t : x ≡ true) {s : List ℕ} (same : s ≡ r) (a : Answer) {n : ℕ} {o : List ℕ} → get_or s 7 0 ≡ 0
-    → told a s w ≡ call_b wide s w (Usable off) → n ≡ refusal a → o ≡ out_of out a → said n r w o ≡ call_c r w out (Usable off)
-usable_said r w out off e t {s = s} same a z c p q =
-    call_said r w out (Usable off) e t same a s w z c p (copied_same r (lent_72 (length r) (length out) e t) (sym (ap (λ y. get_or y 7 0) same) ∙ z) ∙ ap copied (sym same)) q
+pub usable_said : (r w out : List ℕ) (off : ℕ) {o s : List ℕ} → Taken r out o → s ≡ r → (a : Answer) {n : ℕ} {u : List ℕ}
+    → told a s w ≡ call_b wide s w (Usable off) → n ≡ refusal a → u ≡ out_of o a → said n r w u ≡ call_c r w out (Usable off)
+usable_said r w out off {s = s} t same a c p q =
+    call_said r w out t same (Usable off) a s w c p (copied_same r (taken_72 r out t) t.1 ∙ ap copied (sym same)) q
 
 -- ---- set-up
 
 module _ (r w out : List ℕ) {x : Bool} (e : x ≡ lent_ok (length r) (length out)) where
-  pub setup-lost : x ≡ false → said 2 r w out ≡ set_up_c r w out
+  pub setup-lost : x ≡ false → {m : ℕ} → m ≡ 2 → said m r w out ≡ set_up_c r w out
   unfolding set_up_c
-  setup-lost q = sym (rw (sym e ∙ q) refl)
+  setup-lost q p = ap (λ y. said y r w out) p ∙ sym (rw (sym e ∙ q) refl)
 
   pub setup-said : x ≡ true → (a : Answer) (d : Control) (w' : List ℕ) {n : ℕ} {m o v : List ℕ} → ends a d w' ≡ set_up_a wide w → m ≡ image d → n ≡ refusal a → v ≡ copied m → o ≡ out_of out a → said n v w' o ≡ set_up_c r w out
   unfolding set_up_c
@@ -121,9 +147,9 @@ module _ (r w out : List ℕ) {x : Bool} (e : x ≡ lent_ok (length r) (length o
       said_same w' p (v ∙ ap copied i) q ∙ ap (set_c out) c ∙ sym (rw (sym e ∙ t) refl)
 
   module _ (start : ℕ) where
-    pub rebuild_lost : x ≡ false → said 2 r w out ≡ rebuild_c r w out start
+    pub rebuild_lost : x ≡ false → {m : ℕ} → m ≡ 2 → said m r w out ≡ rebuild_c r w out start
     unfolding rebuild_c
-    rebuild_lost q = sym (rw (sym e ∙ q) refl)
+    rebuild_lost q p = ap (λ y. said y r w out) p ∙ sym (rw (sym e ∙ q) refl)
 
     pub rebuild_said : x ≡ true → (a : Answer) (d : Control) (w' : List ℕ) {n : ℕ} {m o v : List ℕ} → ends a d w' ≡ rebuild_a wide w start
         → m ≡ image d → n ≡ refusal a → v ≡ copied m → o ≡ out_of out a → said n v w' o ≡ rebuild_c r w out start
@@ -144,30 +170,6 @@ module _ (n calls : ℕ) where
   pub count_out_lem : (out : List ℕ) {v : ℕ} → v ≡ answered n calls → set (set out 0 n) 1 v ≡ count_out out n calls
   unfolding count_out
   count_out_lem out q = ap (set (set out 0 n) 1) q
-
-module _ (r w out cs xs : List ℕ) {x : Bool} (e : x ≡ lent_ok (length r) (length out)) where
-  pub batch_lost : x ≡ false → ran 2 r w out xs ≡ batch_c r w out cs xs
-  unfolding batch_c
-  batch_lost q = sym (rw (sym e ∙ q) refl)
-
-  module _ (t : x ≡ true) {s : List ℕ} (same : s ≡ r) where
-    first : get_or r 7 0 ≡ get_or s 7 0
-    first = ap (λ z. get_or z 7 0) (sym same)
-
-    pub batch_odd : (a : Answer) {n : ℕ} {o : List ℕ} → (get_or s 7 0 ≡ 0 → ⊥) → a ≡ odd_record (length w) → n ≡ refusal a → o ≡ out_of out a
-        → ran n r w o xs ≡ batch_c r w out cs xs
-    unfolding batch_c
-    batch_odd a {o = o} f i p q =
-        ap (λ y. ran y r w o xs) (p ∙ ap refusal i) ∙ ap (λ y. ran (refusal (odd_record (length w))) r w y xs) (q ∙ ap (out_of out) i)
-        ∙ sym (rw (sym e ∙ t, ne_eqb (get_or r 7 0) 0 (λ z. f (sym first ∙ z))) refl)
-
-    pub batch_ran : (n : ℕ) (r' w' xs' : List ℕ) {m : ℕ} {o v : List ℕ} → get_or s 7 0 ≡ 0 → batched n r' w' xs' ≡ batch_m wide s w cs xs
-        → v ≡ copied r' → m ≡ n → o ≡ count_out out n (length cs) → ran m v w' o xs' ≡ batch_c r w out cs xs
-    unfolding batch_c
-    batch_ran n r' w' xs' {o = o} {v = v} z b u p q =
-        ap (λ y. ran y v w' o xs') p ∙ ap (λ y. ran n y w' o xs') u ∙ ap (λ y. ran n (copied r') w' y xs') q
-        ∙ ap (tell_batch out (length cs)) (b ∙ ap (λ y. batch_m wide y w cs xs) same ∙ set_batch wide r w cs xs (lent_72 (length r) (length out) e t))
-        ∙ sym (rw (sym e ∙ t, eq-eqb (get_or r 7 0) 0 (first ∙ z)) refl)
 
 -- ---- the check
 

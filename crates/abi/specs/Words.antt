@@ -1,6 +1,6 @@
 -- THE CALLS OVER WORDS: the number that each C function returns, and what it leaves in the record's words, in the arena and in the answer's words, for
 -- all inputs. A record of another length than 72 or an answer shorter than 2 is refused with 2 and nothing is written. Assumes nothing.
-use Rattle.std.specs.Prelude.{Bool, ◌&&◌, List, ℕ, ◌/◌, eqb, leb, length, get_or, set}
+use Rattle.std.specs.Prelude.{◌≡◌, Bool, true, ◌&&◌, List, ℕ, ◌/◌, eqb, leb, length, get_or, set}
 use Rattle.words.specs.Logic.{pick}
 use Rattle.words.specs.Edition.{wide}
 use Rattle.rules.specs.Calls.{Call, Reason, bad_count, unsound, bad_alignment, too_many, not_live, no_room, Answer, granted, done, bytes, refused, allowed_count}
@@ -43,6 +43,10 @@ out_of out a = set (set out 0 (refusal a)) 1 (value_of a)
 
 unfoldable pub lent_ok : ℕ → ℕ → Bool
 lent_ok m n = eqb m 72 && leb 2 n
+
+-- enough words were lent, the record's eighth word is 0, and the answer's words are as they were
+abbrev pub Taken : List ℕ → List ℕ → List ℕ → Type 0
+Taken r out out' = (lent_ok (length r) (length out) ≡ true) × (get_or r 7 0 ≡ 0) × (out' ≡ out)
 
 -- the record's words, the eighth of them 0
 unfoldable pub copied : List ℕ → List ℕ

@@ -4,12 +4,12 @@
 
 mod answer;
 
-ghost use Rattle.std.specs.Prelude.{◌≡◌, ◌≤◌, length};
+ghost use Rattle.std.specs.Prelude.{◌≡◌, ◌≤◌, ℕ, List, length, Option, None, Some};
 ghost use Rattle.rules.specs.Calls.{Call, Malloc, Free, Realloc, Memalign, Usable};
 ghost use Rattle.calls.specs.CallBytes.{refusal};
 ghost use Rattle.arena.specs.Answers.{answer_in};
 ghost use Rattle.arena.specs.Closures.{Makes};
-ghost use Rattle.abi.specs.Words.{lent_ok, copied, said, out_of, call_c, set_up_c, rebuild_c, sound_c, ran, batch_c};
+ghost use Rattle.abi.specs.Words.{lent_ok, Taken, copied, said, out_of, call_c, set_up_c, rebuild_c, sound_c, ran, batch_c};
 
 use crate::answer::{Value, odd_record, tell, tell_count};
 use arena::answers::Reason;
@@ -48,6 +48,21 @@ fn copy_out(r: &mut [u64; 72], rec: &mut [u64])
     rec.copy_from_slice(r);
 }
 
+// A record that is not taken, and the number of its refusal: too few words were lent, or the eighth of the record's is not 0.
+fn turned_down(rec: &[u64], w: &[u64], out: &mut [u64]) -> Option<u64>
+    ensures taken { result ≡ None → Taken rec.now out.old out.new }
+    ensures call { (n : ℕ) → result ≡ Some n → (k : Call) → said n rec.now w.now out.new ≡ call_c rec.now w.now out.old k }
+    ensures batch { (n : ℕ) → result ≡ Some n → (cs xs : List ℕ) → ran n rec.now w.now out.new xs ≡ batch_c rec.now w.now out.old cs xs }
+{
+    if !lent_ok(rec.len(), out.len()) {
+        return Some(u64::from(Reason::Unsound));
+    }
+    if rec[SPARE] != 0 {
+        return Some(tell::<u64>(out, Err(odd_record(w))));
+    }
+    None
+}
+
 // The record's words and the answer's, written.
 fn hand_out<T: Value>(
     rec: &mut [u64],
@@ -65,7 +80,7 @@ fn hand_out<T: Value>(
     tell(out, a)
 }
 
-// A call on the record that was lent, and its answer. A record whose eighth word is not 0 is refused.
+// A call on the record that was lent, and its answer.
 fn on_record<T: Value, F: FnOnce(&mut [u64; 72], &mut [u64]) -> Result<T, Reason>>(
     rec: &mut [u64],
     w: &mut [u64],
@@ -75,13 +90,10 @@ fn on_record<T: Value, F: FnOnce(&mut [u64; 72], &mut [u64]) -> Result<T, Reason
     requires { F.IsAlwaysCallable call }
     ensures { (k : Call) → Makes T.says F.FnOnce call k → said result rec.new w.new out.new ≡ call_c rec.old w.old out.old k }
 {
-    if !lent_ok(rec.len(), out.len()) {
-        return 2;
+    if let Some(number) = turned_down(rec, w, out) {
+        return number;
     }
     let mut r = image_in(rec);
-    if r[SPARE] != 0 {
-        return tell::<T>(out, Err(odd_record(w)));
-    }
     let a = call(&mut r, w);
     hand_out(rec, &mut r, out, a)
 }
@@ -92,7 +104,7 @@ pub fn nuka_setup(rec: &mut [u64], w: &mut [u64], out: &mut [u64]) -> u64
     ensures { said result rec.new w.new out.new ≡ set_up_c rec.old w.old out.old }
 {
     if !lent_ok(rec.len(), out.len()) {
-        return 2;
+        return u64::from(Reason::Unsound);
     }
     let x = arena::setup(w);
     let mut r = image_of(x.control);
@@ -105,7 +117,7 @@ pub fn nuka_rebuild(rec: &mut [u64], w: &mut [u64], out: &mut [u64], start: u64)
         ≡ rebuild_c rec.old w.old out.old start }
 {
     if !lent_ok(rec.len(), out.len()) {
-        return 2;
+        return u64::from(Reason::Unsound);
     }
     let x = arena::rebuild(w, start);
     let mut r = image_of(x.control);
@@ -155,13 +167,10 @@ pub fn nuka_memalign(
 pub fn nuka_usable(rec: &[u64], w: &[u64], out: &mut [u64], offset: u64) -> u64
     ensures { said result rec.now w.now out.new ≡ call_c rec.now w.now out.old (Usable offset) }
 {
-    if !lent_ok(rec.len(), out.len()) {
-        return 2;
+    if let Some(number) = turned_down(rec, w, out) {
+        return number;
     }
     let r = image_in(rec);
-    if r[SPARE] != 0 {
-        return tell::<u64>(out, Err(odd_record(w)));
-    }
     tell(out, on_image::usable(&r, w, BlockOff(offset)))
 }
 
@@ -176,13 +185,10 @@ pub fn nuka_batch(
     ensures { ran result rec.new w.new out.new answers.new
         ≡ batch_c rec.old w.old out.old calls.now answers.old }
 {
-    if !lent_ok(rec.len(), out.len()) {
-        return 2;
+    if let Some(number) = turned_down(rec, w, out) {
+        return number;
     }
     let mut r = image_in(rec);
-    if r[SPARE] != 0 {
-        return tell::<u64>(out, Err(odd_record(w)));
-    }
     let whole = batch_on_image(&mut r, w, calls, answers);
     copy_out(&mut r, rec);
     tell_count(out, whole, calls.len())
@@ -193,15 +199,15 @@ pub fn nuka_sound(rec: &[u64], w: &[u64]) -> u64
     ensures { result ≡ sound_c rec.now w.now }
 {
     if rec.len() != 72 {
-        return 2;
+        return u64::from(Reason::Unsound);
     }
     if !words_ok(w.len()) {
-        return 1;
+        return u64::from(Reason::BadCount);
     }
     let r = image_in(rec);
     if r[SPARE] == 0 && sound::sound(&r, w) {
         0
     } else {
-        2
+        u64::from(Reason::Unsound)
     }
 }

@@ -1,5 +1,7 @@
 // The stream cut into records, a byte at a time, so that it may come in pieces of any size. The line holds the first 64 bytes of the record
 // at hand.
+#![tactic(auto, using(crate::proofs::CutCode::laws))]
+
 ghost use Rattle.std.specs.Prelude.{◌≡◌, false, set};
 ghost use Rattle.box_log.specs.Cutting.{at, more, read_line, plain_line, plain_step, line_after, step_at, line_at_end, ending};
 

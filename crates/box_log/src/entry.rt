@@ -1,4 +1,6 @@
 // One record of the log, read from its bytes.
+#![tactic(auto, using(crate::proofs::EntryCode::laws))]
+
 ghost use Rattle.std.specs.Prelude.{◌≡◌};
 ghost use Rattle.std.specs.Option.{option_map};
 ghost use Rattle.box_log.specs.Decimals.{none, number_of};

@@ -1,4 +1,6 @@
 // The lines that answer the records.
+#![tactic(auto, using(crate::proofs::LinesCode::laws))]
+
 ghost use Rattle.std.specs.Prelude.{◌≡◌, [], ◌∷◌, ◌+◌, ◌≤◌, length};
 ghost use Rattle.std.proofs.lemmas.List.Edits.{sets};
 ghost use Rattle.box_log.specs.Answers.{field, line_put, line_end, header_put, header_end};

@@ -2,7 +2,7 @@ use Rattle.abi.proofs.AbiCode.{lent_72, lent_2, rebuild_lost, rebuild_said}
 use Rattle.abi.proofs.nuka_rebuild.Goals as goal
 
 pub returns-then-not-lent_ok : goal.returns-then-not-lent_ok
-returns-then-not-lent_ok c = rebuild_lost _ _ _ c.lent_ok.ensures _ c.if-not-lent_ok.true
+returns-then-not-lent_ok c = rebuild_lost _ _ _ c.lent_ok.ensures _ c.if-not-lent_ok.true c.from.ensures
 
 pub hand_out-requires : goal.hand_out-requires
 hand_out-requires c = record {
