@@ -1,6 +1,6 @@
 // The calls: set-up, malloc, free, realloc, memalign, usable, lend, rebuild, for any record, arena and numbers.
 // The record goes in and out by value.
-#![tactic(auto)]
+#![tactic(auto, using(crate::proofs::CallsCode::laws))]
 
 pub mod answers;
 pub mod control;

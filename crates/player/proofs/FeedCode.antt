@@ -4,7 +4,6 @@ use Rattle.box_log.specs.Answers.{line_put, line_end}
 use Rattle.box_log.specs.Cutting.{line_after, step_at, hand_out, out_of, line_of, place_of}
 use Rattle.box_log.specs.declared.entry.Entry.{Entry}
 use Rattle.box_log.specs.declared.cut.Place.{Place}
-use Rattle.box_log.specs.declared.cut.Step.{Step}
 use Rattle.player.specs.PlayBytes.{scene, play_b}
 use Rattle.player.specs.FeedBytes.{run, Desk, desk, next, lined, tell_b, handed_out, play_all}
 use Rattle.player.specs.declared.play.Played.{Played}
@@ -24,14 +23,6 @@ tell_is e d r v out x r' v' {k} q n p s =
     (line_put out d.at z x.refusal x.offset)) n
     ∙ ap (lined d out) q
 
--- ---- a byte
-
-pub take-place : {s : Step} (t : Step) → s ≡ t → s.place ≡ t.place
-take-place t q = ap (λ z. z.place) q
-
-pub take-desk : (d : Desk) {x : Desk} {s : Step} (t : Step) → s ≡ t → x ≡ handed_out d s.got → x ≡ handed_out d t.got
-take-desk d t q p = p ∙ ap (λ z. handed_out d z.got) q
-
 -- ---- a piece: the bytes that are left, fed on, give what the whole piece gives
 
 play_hand : (d : Desk) (g : Option Entry) (es : List Entry) → play_all d (hand_out g es) ≡ play_all (handed_out d g) es
@@ -47,19 +38,6 @@ pub record Feeding (piece line₀ : List ℕ) (p₀ : Place) (d₀ : Desk) (line
   pub line_same : line_of line p (drop i piece) ≡ line_of line₀ p₀ piece
   pub place_same : place_of line p (drop i piece) ≡ place_of line₀ p₀ piece
   pub desk_same : play_all d (out_of line p (drop i piece)) ≡ play_all d₀ (out_of line₀ p₀ piece)
-
-pub feeding_start : (piece line : List ℕ) (p : Place) (d : Desk) → Feeding piece line p d line p d 0
-feeding_start piece line p d =
-    record {
-      inside = omega arith;
-      line_long = refl;
-      buffer_long = refl;
-      out_long = refl;
-      line_same = refl;
-      place_same = refl;
-      desk_same =
-          refl;
-    }
 
 pub feeding_turn : {piece line₀ : List ℕ} {p₀ : Place} {d₀ : Desk} {line : List ℕ} {p : Place} {d : Desk} {i : ℕ}
     {line' : List ℕ} {p' : Place} {d' : Desk}

@@ -1,5 +1,7 @@
 // One record of the log, played on the calls. The arena at work is the first words of a lent buffer; its record stands in 72 words beside
 // it.
+#![tactic(auto, using(crate::proofs::PlayCode::laws))]
+
 ghost use Rattle.std.specs.Prelude.{◌≡◌};
 ghost use Rattle.rules.specs.Calls.{Malloc, Free, Realloc, Memalign};
 ghost use Rattle.arena.specs.Answers.{block_answer, done_answer};

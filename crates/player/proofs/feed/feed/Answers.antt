@@ -1,8 +1,5 @@
-use Rattle.player.proofs.FeedCode.{feeding_start, feeding_turn, feeding_line, feeding_place, feeding_from}
+use Rattle.player.proofs.FeedCode.{feeding_turn, feeding_line, feeding_place, feeding_from}
 use Rattle.player.proofs.feed.feed.Goals as goal
-
-pub loop-b-init : goal.loop-b-init
-loop-b-init c = feeding_start _ _ _ _
 
 pub loop-b-preserved : goal.loop-b-preserved
 loop-b-preserved c =

@@ -2,32 +2,17 @@ use Rattle.std.proofs.Common.{rules}
 use Rattle.player.proofs.PlayCode.{laws}
 use Rattle.player.proofs.play.play.Goals as goal
 
-pub slice_bounds-malloc-end : goal.slice_bounds-malloc-end
-slice_bounds-malloc-end c = search (laws, rules)
-
 pub slice_bounds-malloc-end-in-Malloc : goal.slice_bounds-malloc-end-in-Malloc
 slice_bounds-malloc-end-in-Malloc c = search (laws, rules)
-
-pub slice_bounds-free-end : goal.slice_bounds-free-end
-slice_bounds-free-end c = search (laws, rules)
 
 pub slice_bounds-free-end-in-Free : goal.slice_bounds-free-end-in-Free
 slice_bounds-free-end-in-Free c = search (laws, rules)
 
-pub slice_bounds-realloc-end : goal.slice_bounds-realloc-end
-slice_bounds-realloc-end c = search (laws, rules)
-
 pub slice_bounds-realloc-end-in-Realloc : goal.slice_bounds-realloc-end-in-Realloc
 slice_bounds-realloc-end-in-Realloc c = search (laws, rules)
 
-pub slice_bounds-memalign-end : goal.slice_bounds-memalign-end
-slice_bounds-memalign-end c = search (laws, rules)
-
 pub slice_bounds-memalign-end-in-Memalign : goal.slice_bounds-memalign-end-in-Memalign
 slice_bounds-memalign-end-in-Memalign c = search (laws, rules)
-
-pub returns-in_default : goal.returns-in_default
-returns-in_default c = search (laws, rules)
 
 pub returns-in-Malloc : goal.returns-in-Malloc
 returns-in-Malloc c = search (laws, rules)

@@ -2,9 +2,6 @@ use Rattle.std.proofs.Common.{rules}
 use Rattle.player.proofs.PlayCode.{laws}
 use Rattle.player.proofs.play.set_up.Goals as goal
 
-pub returns-then-n-w : goal.returns-then-n-w
-returns-then-n-w c = search (laws, rules)
-
 pub returns-in-Ok : goal.returns-in-Ok
 returns-in-Ok c = search (laws, rules)
 
