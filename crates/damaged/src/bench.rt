@@ -17,7 +17,10 @@ pub struct Bench {
 }
 
 impl Bench {
-    pub fn new() -> Bench {
+    pub fn new() -> Bench
+        ensures tried { result.tried ≡ 0 }
+        ensures wrong { result.wrong ≡ 0 }
+    {
         Bench {
             heap: Sample::fresh(128),
             tried: 0,

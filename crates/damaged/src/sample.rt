@@ -56,6 +56,7 @@ impl Sample {
     // An arena of n words, and nothing in it.
     pub fn fresh(n: usize) -> Sample
         requires { n ≤ 512 }
+        ensures { result.arena ≡ n }
     {
         let mut record = [0; 72];
         let mut words = [0; 512];

@@ -1,5 +1,5 @@
 -- A line of the record: eight numbers, which of them is being read, and what the line is so far. Assumes nothing.
-use Rattle.std.specs.Prelude.{Bool, true, false, not, ◌&&◌, ◌||◌, List, get_or, set, Option, Some, None}
+use Rattle.std.specs.Prelude.{Bool, true, false, not, ◌&&◌, ◌||◌, List, get_or, set, replicate, Option, Some, None}
 use Rattle.std.specs.Prelude.{ℕ, ◌+◌, ◌-◌, ◌*◌, ◌%◌, eqb, ltb}
 use Rattle.words.specs.Logic.{pick}
 use Rattle.words.specs.Edition.{wide}
@@ -8,7 +8,16 @@ use Rattle.recorded.specs.declared.tally.Tally.{Tally}
 use Rattle.recorded.specs.declared.text.Kind.{Kind}
 use Rattle.recorded.specs.declared.text.Kind.TheVariants.{Empty, Comment, Numbers, Odd}
 use Rattle.recorded.specs.declared.text.Line.{Line}
+use Rattle.recorded.specs.declared.entry.Spare.{Spare}
 use Rattle.recorded.specs.Tallies.{counted}
+
+-- a line says 0 0 where there is no spare chunk
+abbrev pub spare_said : ℕ → ℕ → Option Spare
+spare_said a n = pick (eqb a 0 && eqb n 0) None (Some record { at = a; bytes = n })
+
+-- nothing is read
+abbrev pub fresh_line : Line
+fresh_line = record { numbers = replicate 8 0; at = 0; kind = Empty }
 
 -- the line has numbers, and nothing else so far; it has a byte that is none of a line of numbers
 abbrev pub has_numbers : Kind → Bool

@@ -1,4 +1,7 @@
 // What a line of eight numbers says: kind a b refusal offset topsize dv dvsize.
+ghost use Rattle.std.specs.Prelude.{◌≡◌};
+ghost use Rattle.recorded.specs.Lines.{spare_said};
+
 use chunk::access::BlockOff;
 
 #[derive(Clone, Copy)]
@@ -18,7 +21,9 @@ pub struct Spare {
 
 impl Spare {
     // A line has 0 0 where there is none.
-    pub fn from_numbers(at: u64, bytes: u64) -> Option<Spare> {
+    pub fn from_numbers(at: u64, bytes: u64) -> Option<Spare>
+        ensures { result ≡ spare_said at bytes }
+    {
         match (at, bytes) {
             (0, 0) => None,
             _ => Some(Spare { at, bytes }),

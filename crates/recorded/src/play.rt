@@ -1,5 +1,6 @@
 // The lines of the record, played: each is a call, or a look at the heap, held against the crate's numbers.
-ghost use Rattle.std.specs.Prelude.{◌≤◌};
+ghost use Rattle.std.specs.Prelude.{◌≡◌, ◌≤◌};
+ghost use Rattle.recorded.specs.Lines.{fresh_line};
 
 use crate::entry::{Call, Entry, Spare, Told};
 use crate::look::{chunks_below, heap_sum, owned_sum};
@@ -47,7 +48,11 @@ pub struct Player {
 }
 
 impl Player {
-    pub fn new() -> Player {
+    // No arena yet: the first line of a history sets one up.
+    pub fn new() -> Player
+        ensures arena { result.arena ≡ 0 }
+        ensures line { result.line ≡ fresh_line }
+    {
         Player {
             record: [0; 72],
             words: [0; 8192],
@@ -58,7 +63,9 @@ impl Player {
         }
     }
 
-    pub fn tally(&self) -> &Tally {
+    pub fn tally(&self) -> &Tally
+        ensures { result.now ≡ self.now.tally }
+    {
         &self.tally
     }
 

@@ -1,6 +1,6 @@
 // Lines of eight decimal numbers, a byte at a time, one space between two. A line that has a # says nothing, nor does an empty one.
 ghost use Rattle.std.specs.Prelude.{◌≡◌, ◌<◌};
-ghost use Rattle.recorded.specs.Lines.{numbers_read, line_odd, begun, ended, end_line};
+ghost use Rattle.recorded.specs.Lines.{fresh_line, numbers_read, line_odd, begun, ended, end_line};
 ghost use Rattle.recorded.specs.Lines.{with_number_byte, with_odd_byte, with_digit, with_byte, after_byte};
 
 use crate::tally::Tally;
@@ -24,7 +24,9 @@ pub struct Line {
 }
 
 impl Line {
-    pub fn new() -> Line {
+    pub fn new() -> Line
+        ensures { result ≡ fresh_line }
+    {
         Line {
             numbers: [0; 8],
             at: 0,
