@@ -84,13 +84,13 @@ pub fn map<B: Bins>(r: &[u64; 72]) -> u32
     (r[B::MAP] % 4294967296) as u32
 }
 
-fn mark<B: Bins>(r: &mut [u64; 72], i: u32)
+pub fn mark<B: Bins>(r: &mut [u64; 72], i: u32)
     ensures { r.new ≡ mark_r B.kind r.old i }
 {
     r[B::MAP] = with_bit::<32>(r[B::MAP], i as u64);
 }
 
-fn clear<B: Bins>(r: &mut [u64; 72], i: u32)
+pub fn clear<B: Bins>(r: &mut [u64; 72], i: u32)
     ensures { r.new ≡ clear_r B.kind r.old i }
 {
     r[B::MAP] = without_bit::<32>(r[B::MAP], i as u64);
@@ -142,6 +142,45 @@ pub fn topsize(r: &[u64; 72]) -> u64
     r[TOPSIZE]
 }
 
+pub fn set_dv(r: &mut [u64; 72], c: ChunkOff, n: u64)
+    ensures { r.new ≡ set_dv r.old c.0 n }
+{
+    r[DV] = c.0;
+    r[DVSIZE] = n;
+}
+
+pub fn no_dv(r: &mut [u64; 72])
+    ensures { r.new ≡ set_dv r.old (no_link wide) 0 }
+{
+    set_dv(r, ChunkOff(NONE), 0);
+}
+
+pub fn set_top(r: &mut [u64; 72], c: ChunkOff, n: u64)
+    ensures { r.new ≡ set_top r.old c.0 n }
+{
+    r[TOP] = c.0;
+    r[TOPSIZE] = n;
+}
+
+// A bin gets a first member.
+pub fn enter<B: Bins>(r: &mut [u64; 72], i: u32, c: ChunkOff)
+    ensures { r.new ≡ enter_r B.kind r.old i c.0 }
+{
+    mark::<B>(r, i);
+    set_bin::<B>(r, i, c);
+}
+
+// A bin gets another first member, or none: then its bit is cleared.
+pub fn relink<B: Bins>(r: &mut [u64; 72], i: u32, c: ChunkOff)
+    ensures { r.new ≡ relink_r wide B.kind r.old i c.0 }
+{
+    if c.0 == NONE {
+        clear::<B>(r, i);
+    }
+    set_bin::<B>(r, i, c);
+}
+
+// The same of a heap at work: its words stay.
 impl Heap<'_> {
     pub fn dv(&self) -> ChunkOff
         ensures { result.0 ≡ slice_index self.now.image.now 2 }
@@ -170,21 +209,19 @@ impl Heap<'_> {
     pub fn set_dv(&mut self, c: ChunkOff, n: u64)
         ensures { Notes self.old self.new (set_dv self.old.image.now c.0 n) }
     {
-        self.image[DV] = c.0;
-        self.image[DVSIZE] = n;
+        set_dv(self.image, c, n);
     }
 
     pub fn no_dv(&mut self)
         ensures { Notes self.old self.new (set_dv self.old.image.now (no_link wide) 0) }
     {
-        self.set_dv(ChunkOff(NONE), 0);
+        no_dv(self.image);
     }
 
     pub fn set_top(&mut self, c: ChunkOff, n: u64)
         ensures { Notes self.old self.new (set_top self.old.image.now c.0 n) }
     {
-        self.image[TOP] = c.0;
-        self.image[TOPSIZE] = n;
+        set_top(self.image, c, n);
     }
 
     pub fn map<B: Bins>(&self) -> u32
@@ -199,21 +236,15 @@ impl Heap<'_> {
         bin_at::<B>(self.image, i)
     }
 
-    // A bin gets a first member.
     pub fn enter<B: Bins>(&mut self, i: u32, c: ChunkOff)
         ensures { Notes self.old self.new (enter_r B.kind self.old.image.now i c.0) }
     {
-        mark::<B>(self.image, i);
-        set_bin::<B>(self.image, i, c);
+        enter::<B>(self.image, i, c);
     }
 
-    // A bin gets another first member, or none: then its bit is cleared.
     pub fn relink<B: Bins>(&mut self, i: u32, c: ChunkOff)
         ensures { Notes self.old self.new (relink_r wide B.kind self.old.image.now i c.0) }
     {
-        if c.0 == NONE {
-            clear::<B>(self.image, i);
-        }
-        set_bin::<B>(self.image, i, c);
+        relink::<B>(self.image, i, c);
     }
 }

@@ -1,7 +1,7 @@
 -- The maps of filled bins: a number of w bits whose bit i is 1 exactly when bin i holds something. What it is to set and to clear a bit, the bits
 -- left of one, the lowest one, the first filled bin from an index on, and the bin of a small need. Each is plain arithmetic on numbers, for
 -- every width w (the maps have 32). Definitions only; their laws are in `BinMapLaws`. Assumes nothing.
-use Rattle.std.specs.Prelude.{◌≡◌, ℕ, ◌+◌, ◌-◌, ◌*◌, ◌/◌, ◌%◌, ◌^◌, ◌<◌, ◌≤◌, Bool, true, false, ltb, ◌==◌, Option, Some, None}
+use Rattle.std.specs.Prelude.{◌≡◌, ℕ, ◌+◌, ◌-◌, ◌*◌, ◌/◌, ◌%◌, ◌^◌, ◌<◌, ◌≤◌, Bool, true, false, ◌&&◌, ltb, leb, ◌==◌, Option, Some, None}
 use Rattle.std.specs.Int.Count.{count_trailing_zeros}
 use Rattle.words.specs.Logic.{pick}
 use Rattle.index.specs.Bit.{bit, tell}
@@ -16,6 +16,10 @@ mark i m = m + (1 - bit i m) * 2 ^ i
 
 unfoldable pub clear : ℕ → ℕ → ℕ
 clear i m = m - bit i m * 2 ^ i
+
+-- where bit i stands in a word of which w bits are used: i modulo w, a width from 1 to 64; for another width bit 0
+abbrev pub bit_place : ℕ → ℕ → ℕ
+bit_place w i = pick (ltb 0 w && leb w 64) (i % w) 0
 
 -- `count_trailing_zeros w x` is the place of x's lowest set bit, and w for 0 (`lib.Count`; laws in `Digits`).
 -- All bits left of x's lowest set bit: for x = 2 ^ i the bits i + 1 to w - 1; none for 0

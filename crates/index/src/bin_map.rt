@@ -1,7 +1,7 @@
 // The maps of filled bins: a u32 whose bit i is set exactly when bin i holds something.
-ghost use Rattle.std.specs.Prelude.{◌≡◌, ◌+◌, ◌%◌, ◌<◌, ◌≤◌, ◌==◌};
+ghost use Rattle.std.specs.Prelude.{◌≡◌, ◌+◌, ◌%◌, ◌<◌, ◌==◌};
 ghost use Rattle.index.specs.Bit.{bit};
-ghost use Rattle.index.specs.BinMap.{mark, clear, left_bits, least_bit, first_from, own_or_next, in_map};
+ghost use Rattle.index.specs.BinMap.{mark, clear, bit_place, left_bits, least_bit, first_from, own_or_next, in_map};
 
 // All bits left of x's lowest set bit: a wrapping add of one to the inverted shifted map bit.
 pub fn left_bits(x: u32) -> u32
@@ -25,19 +25,39 @@ pub fn is_marked(map: u32, i: u32) -> bool
     map & (1 << (i % 32)) != 0
 }
 
+// The map with bit i set.
+pub fn mark_bin(map: u32, i: u32) -> u32
+    ensures { result ≡ mark (i % 32) map }
+{
+    map | (1 << (i % 32))
+}
+
+// The map with bit i clear.
+pub fn clear_bin(map: u32, i: u32) -> u32
+    ensures { result ≡ clear (i % 32) map }
+{
+    map & !(1 << (i % 32))
+}
+
+// Where bit i stands. A width that no word has leaves bit 0.
+fn bit_place<const N: u64>(i: u64) -> u64
+    ensures place { result ≡ bit_place N i }
+    ensures in_the_word { result < 64 }
+{
+    if 0 < N && N <= 64 { i % N } else { 0 }
+}
+
 // The word with bit i set, and with it clear. i is taken modulo N: 32 in the maps of bins, 64 in the sets of the check.
 pub fn with_bit<const N: u64>(word: u64, i: u64) -> u64
-    requires { (0 < N) × (N ≤ 64) }
-    ensures { result ≡ mark (i % N) word }
+    ensures { result ≡ mark (bit_place N i) word }
 {
-    word | (1 << (i % N))
+    word | (1 << bit_place::<N>(i))
 }
 
 pub fn without_bit<const N: u64>(word: u64, i: u64) -> u64
-    requires { (0 < N) × (N ≤ 64) }
-    ensures { result ≡ clear (i % N) word }
+    ensures { result ≡ clear (bit_place N i) word }
 {
-    word & !(1 << (i % N))
+    word & !(1 << bit_place::<N>(i))
 }
 
 // A place of a map, if it is one.

@@ -8,7 +8,13 @@ ghost use Rattle.lend.specs.LendBytes.{lends_b, lent_from, lent_words, lent, bac
 use chunk::access::BlockOff;
 use chunk::image::TOP;
 use sound::{live_block, sound, usable_size, words_ok};
-use std::ops::Range;
+
+// Where a part of the arena starts, and how many words it has.
+#[derive(Clone, Copy)]
+pub struct Span {
+    pub from: usize,
+    pub words: usize,
+}
 
 // The count is allowed, the pair is sound, and a live block starts at this offset.
 fn lends(r: &[u64; 72], w: &[u64], b: BlockOff) -> bool
@@ -17,20 +23,20 @@ fn lends(r: &[u64; 72], w: &[u64], b: BlockOff) -> bool
     words_ok(w.len()) && sound(r, w) && live_block(w, r[TOP], b)
 }
 
-// The part that is lent: its words' indexes in the arena.
-pub fn part(r: &[u64; 72], w: &[u64], b: BlockOff) -> Range<usize>
-    ensures from { result.start ≡ lent_from wide r.now w.now b.0 }
-    ensures words { result.end ≡ lent_from wide r.now w.now b.0 + lent_words wide r.now w.now b.0 }
+// The part that is lent.
+pub fn part(r: &[u64; 72], w: &[u64], b: BlockOff) -> Span
+    ensures from { result.from ≡ lent_from wide r.now w.now b.0 }
+    ensures words { result.words ≡ lent_words wide r.now w.now b.0 }
 {
     if !lends(r, w, b) {
-        return 0..0;
+        return Span { from: 0, words: 0 };
     }
     let from = (b.0 / 8) as usize;
     let words = (usable_size(w, b) / 8) as usize;
     if from + words <= w.len() {
-        from..from + words
+        Span { from, words }
     } else {
-        0..0
+        Span { from: 0, words: 0 }
     }
 }
 
@@ -41,7 +47,7 @@ pub fn lend<'a>(r: &[u64; 72], w: &'a mut [u64], b: BlockOff) -> &'a mut [u64]
     ensures start { result.ref_ptr.1 ≡ lent_from wide r.now w.old b.0 * 8 + w.entry.ref_ptr.1 }
 {
     let p = part(r, w, b);
-    &mut w[p]
+    &mut w[p.from..p.from + p.words]
 }
 
 // Nothing is written past the end. (After `get_mut` a proof would know the slice's length alone.)
@@ -58,5 +64,5 @@ pub fn store(r: &[u64; 72], w: &mut [u64], b: BlockOff, i: usize, v: u64)
     ensures { w.new ≡ back wide r.now w.old b.0 (set (lent wide r.now w.old b.0) i v) }
 {
     let p = part(r, w, b);
-    put_at(&mut w[p], i, v);
+    put_at(&mut w[p.from..p.from + p.words], i, v);
 }

@@ -4,6 +4,7 @@
 ghost use Rattle.std.specs.Prelude.{◌≢◌};
 ghost use Rattle.words.specs.Edition.{wide, no_link};
 ghost use Rattle.chunk.specs.Running.{Becomes};
+ghost use Rattle.treebin.specs.Found.{IsFind};
 ghost use Rattle.treebin.specs.SearchBytes.{best, best_above, best_tree};
 ghost use Rattle.malloc.specs.MallocBytes.{settle_b, serve_b, malloc_top, cut_dv, malloc_dv, take_small, take_fuller, take_tree, small_tree, malloc_fuller, malloc_small, malloc_find, malloc_b};
 ghost use Rattle.malloc.specs.Granting.{rest_of, Replies, Grants};
@@ -123,10 +124,23 @@ fn take_tree(h: &mut Heap, to: Rest, nb: u64, b: Found) -> ChunkOff
     b.at
 }
 
+// The trees' searches, on a heap at work.
+fn tree_above(h: &Heap, i: u32, nb: u64) -> Option<Found>
+    ensures { IsFind result (best_above wide h.now.image.now h.now.words.now i nb) }
+{
+    best_from(h.image, h.words, i, nb)
+}
+
+fn tree_for(h: &Heap, nb: u64) -> Option<Found>
+    ensures { IsFind result (best_tree wide h.now.image.now h.now.words.now nb) }
+{
+    best_tree(h.image, h.words, nb)
+}
+
 fn tmalloc_small(h: &mut Heap, nb: u64) -> ChunkOff
     ensures { Replies h.old h.new result.0 (small_tree wide h.old.image.now h.old.words.now nb (best_above wide h.old.image.now h.old.words.now 0 nb)) }
 {
-    match best_from(h, 0, nb) {
+    match tree_above(h, 0, nb) {
         Some(b) => take_tree(h, Rest::Dv, nb, b),
         None => malloc_top(h, nb),
     }
@@ -171,7 +185,7 @@ fn malloc_found(h: &mut Heap, nb: u64, b: Found) -> ChunkOff
 fn malloc_large(h: &mut Heap, nb: u64) -> ChunkOff
     ensures { Replies h.old h.new result.0 (malloc_find wide h.old.image.now h.old.words.now nb (best_tree wide h.old.image.now h.old.words.now nb)) }
 {
-    match best_tree(h, nb) {
+    match tree_for(h, nb) {
         Some(b) => malloc_found(h, nb, b),
         None => malloc_dv(h, nb),
     }

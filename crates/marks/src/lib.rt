@@ -18,7 +18,7 @@ const GRANULES: u64 = 64 * (MARK_WORDS as u64);
 pub const TURNS: u32 = 64 * (MARK_WORDS as u32) + 1;
 
 // A contract sees a set as the list of its words.
-#[derive(Drop)]
+#[derive(Clone, Copy)]
 pub struct Marks {
     words: [u64; MARK_WORDS],
 }
@@ -29,6 +29,8 @@ impl Model for Marks {
     ghost Value = { List ℕ };
 
     ghost view = { λ m. m.words };
+
+    ghost inverse = { λ words. record { words = words } };
 }
 
 fn holdable(off: u64) -> bool

@@ -7,9 +7,9 @@ ghost use Rattle.treebin.specs.Found.{IsFind};
 ghost use Rattle.treebin.specs.SearchBytes.{best, no_best, better_b, leftmost, down_b, passed_by, walked, walk_b, best_above, best_tree};
 
 use crate::insert::{LEVELS, child_word};
-use chunk::access::{ChunkOff, NONE};
-use chunk::heap::Heap;
-use chunk::image::Tree;
+use chunk::access::{ChunkOff, NONE, link};
+use chunk::heads::size;
+use chunk::image::{Tree, bin_at, map};
 use index::bin_map::filled_from;
 use index::tree_bin::{child_side, compute_tree_index, first_key, next_key};
 
@@ -53,16 +53,16 @@ fn better(had: Found, t: ChunkOff, s: u64, n: u64) -> Found
     had
 }
 
-fn leftmost_child(h: &Heap, t: ChunkOff) -> ChunkOff
-    ensures { result.0 ≡ leftmost wide h.now.words.now t.0 }
+fn leftmost_child(w: &[u64], t: ChunkOff) -> ChunkOff
+    ensures { result.0 ≡ leftmost wide w.now t.0 }
 {
-    let c = h.link(t, 4);
-    if c.0 == NONE { h.link(t, 5) } else { c }
+    let c = link(w, t, 4);
+    if c.0 == NONE { link(w, t, 5) } else { c }
 }
 
 // The best on the way down by leftmost children, if it is better than what is had.
-pub fn smallest(h: &Heap, from: ChunkOff, n: u64, had: Found) -> Found
-    ensures { best result.at.0 result.rsize ≡ down_b wide h.now.words.now n 64 from.0 (best had.at.0 had.rsize) }
+pub fn smallest(w: &[u64], from: ChunkOff, n: u64, had: Found) -> Found
+    ensures { best result.at.0 result.rsize ≡ down_b wide w.now n 64 from.0 (best had.at.0 had.rsize) }
 {
     let mut t = from;
     let mut b = had;
@@ -70,28 +70,28 @@ pub fn smallest(h: &Heap, from: ChunkOff, n: u64, had: Found) -> Found
         if t.0 == NONE {
             break;
         }
-        b = better(b, t, h.size(t), n);
-        t = leftmost_child(h, t);
+        b = better(b, t, size(w, t), n);
+        t = leftmost_child(w, t);
     }
     b
 }
 
 // The right child that a way to the left passes by, where there is one, else what was passed before.
-fn passed_by(h: &Heap, t: ChunkOff, key: u64, before: ChunkOff) -> ChunkOff
-    ensures { result.0 ≡ passed_by wide h.now.words.now t.0 key before.0 }
+fn passed_by(w: &[u64], t: ChunkOff, key: u64, before: ChunkOff) -> ChunkOff
+    ensures { result.0 ≡ passed_by wide w.now t.0 key before.0 }
 {
     if child_side(key) != 0 {
         return before;
     }
-    let c = h.link(t, 5);
+    let c = link(w, t, 5);
     if c.0 == NONE { before } else { c }
 }
 
 // The way of a size down its own tree: the best on it, and the deepest right subtree passed by.
 // At remainder zero it stops at once, and there is nothing left to look at. Document 01 names the form: a loop left by a break with the
 // best node, which a `for` can't be.
-pub fn walk_own(h: &Heap, root: ChunkOff, n: u64, key: u64) -> Way
-    ensures { walked (best result.found.at.0 result.found.rsize) result.rest.0 ≡ walk_b wide h.now.words.now n 64 root.0 key (no_link wide) (no_best wide) }
+pub fn walk_own(w: &[u64], root: ChunkOff, n: u64, key: u64) -> Way
+    ensures { walked (best result.found.at.0 result.found.rsize) result.rest.0 ≡ walk_b wide w.now n 64 root.0 key (no_link wide) (no_best wide) }
 {
     let mut t = root;
     let mut b = no_best();
@@ -102,15 +102,15 @@ pub fn walk_own(h: &Heap, root: ChunkOff, n: u64, key: u64) -> Way
         if left == 0 {
             break Way { found: b, rest };
         }
-        b = better(b, t, h.size(t), n);
+        b = better(b, t, size(w, t), n);
         if b.rsize == 0 {
             break Way {
                 found: b,
                 rest: ChunkOff(NONE),
             };
         }
-        rest = passed_by(h, t, k, rest);
-        t = h.link(t, child_word(k));
+        rest = passed_by(w, t, k, rest);
+        t = link(w, t, child_word(k));
         if t.0 == NONE {
             break Way { found: b, rest };
         }
@@ -128,32 +128,32 @@ fn known(b: Found) -> Option<Found>
 }
 
 // The smallest of the first filled tree from bin i on.
-pub fn best_from(h: &Heap, i: u32, n: u64) -> Option<Found>
-    ensures { IsFind result (best_above wide h.now.image.now h.now.words.now i n) }
+pub fn best_from(r: &[u64; 72], w: &[u64], i: u32, n: u64) -> Option<Found>
+    ensures { IsFind result (best_above wide r.now w.now i n) }
 {
     if i > 31 {
         return None;
     }
-    match filled_from(h.map::<Tree>(), i) {
-        Some(j) => known(smallest(h, h.bin_at::<Tree>(j), n, no_best())),
+    match filled_from(map::<Tree>(r), i) {
+        Some(j) => known(smallest(w, bin_at::<Tree>(r, j), n, no_best())),
         None => None,
     }
 }
 
 // The smallest tree chunk that fits, by its remainder.
-pub fn best_tree(h: &Heap, n: u64) -> Option<Found>
-    ensures { IsFind result (best_tree wide h.now.image.now h.now.words.now n) }
+pub fn best_tree(r: &[u64; 72], w: &[u64], n: u64) -> Option<Found>
+    ensures { IsFind result (best_tree wide r.now w.now n) }
 {
     let i = compute_tree_index(n);
-    let root = h.bin_at::<Tree>(i);
+    let root = bin_at::<Tree>(r, i);
     if root.0 == NONE {
-        return best_from(h, i + 1, n);
+        return best_from(r, w, i + 1, n);
     }
-    let way = walk_own(h, root, n, first_key(n, i));
+    let way = walk_own(w, root, n, first_key(n, i));
     let found = way.found;
-    let b = smallest(h, way.rest, n, found);
+    let b = smallest(w, way.rest, n, found);
     if b.at.0 == NONE {
-        return best_from(h, i + 1, n);
+        return best_from(r, w, i + 1, n);
     }
     Some(b)
 }

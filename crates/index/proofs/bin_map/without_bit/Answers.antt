@@ -1,11 +1,11 @@
--- `index::bin_map::without_bit` meets its contract. `1 << i % N` is 2 ^ (i % N), and `&` with its complement clears.
+-- `index::bin_map::without_bit` meets its contract. `1 << p` is 2 ^ p where p is a bit of a word, and `&` with its complement clears.
 -- Assumes nothing.
-use Rattle.std.proofs.Common.{◌%◌, ◌<◌, mod-lt, lt_of_lt_of_le}
+use Rattle.std.proofs.Common.{◌<◌, subst}
 use Rattle.index.specs.Words.{one_shl}
 use Rattle.index.specs.BinMapLaws.{and_clears}
 use Rattle.index.proofs.bin_map.without_bit.Goals as goal
 
 pub returns : goal.returns
 returns r c =
-    let below : c.args.i % r.row.N < 64 = lt_of_lt_of_le (mod-lt c.args.i c.requires.0) c.requires.1 in
-    rw (one_shl 64 (c.args.i % r.row.N) below) (and_clears 64 _ _ below c.ranges.word.fits)
+    let below : c.bit_place.result < 64 = c.bit_place.ensures.in_the_word in
+    rw (one_shl 64 c.bit_place.result below, c.bit_place.ensures.place) (and_clears 64 _ _ (subst (λ x. x < 64) c.bit_place.ensures.place below) c.ranges.word.fits)
