@@ -1,5 +1,5 @@
-// Size and index arithmetic of the allocator: pure functions on numbers, no arena. Every input has an answer: bin numbers are taken
-// modulo 32, bits modulo the width that the caller names, and sums wrap.
+// Size and index arithmetic of the allocator: pure functions on numbers, no arena. Every public
+// function has an answer for every input: bin numbers are taken modulo 32, and sums wrap.
 #![tactic(auto)]
 
 pub mod bin_map;
