@@ -1,8 +1,5 @@
--- THE WHOLE LIST, refused or not, as its number and the record that the caller has then. Assumes nothing.
+-- THE WHOLE LIST, refused or not, as its number. Assumes nothing.
 use Rattle.std.specs.Prelude.{ℕ, Result, Ok, Err}
-use Rattle.holds.specs.Holds as holds
-use Rattle.arena.specs.Record.{numbers}
-use Rattle.arena.specs.declared.control.Control.{Control}
 use Rattle.batch.specs.declared.whole.WholeRefusal.{WholeRefusal}
 use Rattle.batch.specs.declared.whole.WholeRefusal.TheVariants.{BadCount, Unsound, ListsDoNotFit}
 
@@ -16,13 +13,3 @@ refusal_number ListsDoNotFit = 8
 abbrev pub whole_number : {T : Type 0} → Result T WholeRefusal → ℕ
 whole_number (Ok x) = 0
 whole_number (Err why) = refusal_number why
-
--- a refused list leaves the caller the record that was given
-abbrev pub handed_back : Result Control WholeRefusal → holds.Control → holds.Control
-handed_back (Ok d) c = numbers d
-handed_back (Err why) c = c
-
--- number and record together
-pub record Whole : Type 0 where
-  pub refusal : ℕ
-  pub control : Control

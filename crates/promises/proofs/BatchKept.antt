@@ -1,6 +1,6 @@
 -- REQUEST (xi) IS KEPT. The rows by the three tests in their order; what is left and answered by `one_by_one_lem` (`batch`) and induction over
 -- the list, in step with the history of its calls; the rest from these. Assumes nothing.
-use Rattle.std.specs.Prelude.{◌≡◌, Bool, ◌&&◌, List, [], ◌∷◌, ◌++◌, ◌↔◌, ◌⊎◌, eqb, leb, length, set, Result, Ok, Err}
+use Rattle.std.specs.Prelude.{◌≡◌, Bool, ◌&&◌, List, [], ◌∷◌, ◌++◌, ◌↔◌, ◌⊎◌, eqb, leb, length, set, Result, Ok, Err, ⊤}
 use Rattle.std.proofs.Math.Path.{refl, sym, ap}
 use Rattle.std.proofs.Common.{◌∙◌, subst, inl, inr, ⊎_elim, arith, length-set, get_or-set_same, eqb-true, leb-true, leb-false, ne_eqb}
 use Rattle.std.proofs.Math.Bool.{true, false}
@@ -26,10 +26,10 @@ use Rattle.calls.specs.Histories.{Box, box, Event, asks, writes, rebuilds, write
 use Rattle.calls.proofs.Histories.{calls-held, goes, from_set_up}
 use Rattle.arena.specs.Record.{numbers}
 use Rattle.arena.specs.declared.control.Control as arena
-use Rattle.batch.specs.Whole.{Whole, refusal_number, whole_number, handed_back}
+use Rattle.batch.specs.Whole.{whole_number}
+use Rattle.batch.specs.declared.whole.Whole.{Whole}
 use Rattle.batch.specs.declared.whole.WholeRefusal.{WholeRefusal}
 use Rattle.batch.specs.declared.whole.WholeRefusal.TheVariants.{BadCount, Unsound, ListsDoNotFit}
-use Rattle.batch.proofs.BatchCode.{not_zero}
 use Rattle.batch.specs.BatchBytes.{Said, said, by_kind, call_at, write_at, step_at, Ran, runs, lists_fit, made, Ended, ended, ends_as, batch_a}
 use Rattle.batch.specs.BatchBytes.{alone, ends_alone, one_by_one}
 use Rattle.batch.specs.BatchBytes as code
@@ -470,33 +470,35 @@ same_answers c w v cs xs h n agree = (
 
 -- ---- no second outcome
 
+-- the code's answer for the whole can be read back from its number
+abbrev answer_from : ℕ → Result ⊤ WholeRefusal
+answer_from n = pick (eqb n 0) (Ok tt) (Err (pick (eqb n 1) BadCount (pick (eqb n 2) Unsound ListsDoNotFit)))
+
+answer_back : (x : Result ⊤ WholeRefusal) → answer_from (whole_number x) ≡ x
+answer_back (Ok x) = refl
+answer_back (Err BadCount) = refl
+answer_back (Err Unsound) = refl
+answer_back (Err ListsDoNotFit) = refl
+
+one_whole : (x x' : Result ⊤ WholeRefusal) → whole_number x ≡ whole_number x' → x ≡ x'
+one_whole x x' q = sym (answer_back x) ∙ ap answer_from q ∙ answer_back x'
+
+abbrev with_control : Result ⊤ WholeRefusal → arena.Control → Whole
+with_control a d = record { answer = a; control = d }
+
 abbrev whole_of : Ended → Whole
-whole_of b = record { refusal = b.refusal; control = settling.control b.control }
+whole_of b = with_control (answer_from b.refusal) (settling.control b.control)
 
 settled : (c : Control) (w v v' cs xs ys ys' : List ℕ) (x x' : Whole)
-    → ended x.refusal (numbers x.control) v ys ≡ batch_a wide c w cs xs
-    → ended x'.refusal (numbers x'.control) v' ys' ≡ batch_a wide c w cs xs
+    → ended (whole_number x.answer) (numbers x.control) v ys ≡ batch_a wide c w cs xs
+    → ended (whole_number x'.answer) (numbers x'.control) v' ys' ≡ batch_a wide c w cs xs
     → (x ≡ x') × (v ≡ v') × (ys ≡ ys')
 settled c w v v' cs xs ys ys' x x' p q =
     let z = p ∙ sym q in (sym (back x) ∙ ap whole_of z ∙ back x', ap (λ (b : Ended). b.words) z, ap (λ (b : Ended). b.answers) z)
   where
-    back : (x : Whole) → whole_of (ended x.refusal (numbers x.control) [] []) ≡ x
-    back x = ap (λ d. record { refusal = x.refusal; control = d }) (settling.control_back x.control)
-
--- the code's result can be read back from its number and the record that it leaves
-one_whole : (c : Control) (x x' : Result arena.Control WholeRefusal) → whole_number x ≡ whole_number x' → handed_back x c ≡ handed_back x' c → x ≡ x'
-one_whole c (Ok d) (Ok d') p q = ap Ok (sym (settling.control_back d) ∙ ap settling.control q ∙ settling.control_back d')
-one_whole c (Ok d) (Err why) p q = absurd (not_zero why (sym p))
-one_whole c (Err why) (Ok d) p q = absurd (not_zero why p)
-one_whole c (Err why) (Err why') p q = ap Err (sym (back why) ∙ ap named p ∙ back why')
-  where
-    named : ℕ → WholeRefusal
-    named n = pick (eqb n 1) BadCount (pick (eqb n 2) Unsound ListsDoNotFit)
-
-    back : (why : WholeRefusal) → named (refusal_number why) ≡ why
-    back BadCount = refl
-    back Unsound = refl
-    back ListsDoNotFit = refl
+    back : (x : Whole) → whole_of (ended (whole_number x.answer) (numbers x.control) [] []) ≡ x
+    back x = ap (with_control (answer_from (whole_number x.answer))) (settling.control_back x.control)
+        ∙ ap (λ a. with_control a x.control) (answer_back x.answer)
 
 pub batch : Batch
 batch =

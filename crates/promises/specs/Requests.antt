@@ -1,6 +1,6 @@
 -- DOCUMENT 02'S REQUESTS, one record each, in its own numbers. A sentence stands above each statement; that all hold is `requests_kept` in
 -- `AllKept`. Throughout, c is the numbers of a record, w the arena's words, es a history. Assumes nothing.
-use Rattle.std.specs.Prelude.{◌≡◌, List, [], ◌∷◌, ◌++◌, ◌↔◌, ◌⊎◌, ℕ, zero, suc, ◌+◌, ◌*◌, ◌/◌, ◌%◌, ◌≤◌, ◌<◌, eqb, length, get_or, Result}
+use Rattle.std.specs.Prelude.{◌≡◌, List, [], ◌∷◌, ◌++◌, ◌↔◌, ◌⊎◌, ℕ, zero, suc, ◌+◌, ◌*◌, ◌/◌, ◌%◌, ◌≤◌, ◌<◌, eqb, length, get_or, Result, ⊤}
 use Rattle.std.proofs.Math.Option.{Option, none, some}
 use Rattle.words.specs.Logic.{pick}
 use Rattle.words.specs.Edition.{wide, no_link}
@@ -23,7 +23,8 @@ use Rattle.arena.specs.Record.{numbers}
 use Rattle.arena.specs.Answers as code
 use Rattle.arena.specs.declared.control.Control as arena
 use Rattle.batch.specs.BatchBytes.{ended, batch_a}
-use Rattle.batch.specs.Whole.{Whole, whole_number, handed_back}
+use Rattle.batch.specs.Whole.{whole_number}
+use Rattle.batch.specs.declared.whole.Whole.{Whole}
 use Rattle.batch.specs.declared.whole.WholeRefusal.{WholeRefusal}
 use Rattle.promises.specs.Promises.{says, Allowed, LiveAt, then, Serves, Agree}
 
@@ -178,14 +179,13 @@ pub record Batch : Type 0 where
   pub same_answers : (c : Control) (w v cs xs : List ℕ) (h : Heap) → Holds wide c w h → Agree h w v
       → ((batch_a wide c v cs xs).refusal ≡ (batch_a wide c w cs xs).refusal) ×
       ((batch_a wide c v cs xs).answers ≡ (batch_a wide c w cs xs).answers)
-  -- No second outcome: two that both fit the contract are one. (The list of calls is only read.)
+  -- No second outcome: two that both fit the contract, in the types of the code, are one. (The list of calls is only read.)
   pub settled : (c : Control) (w v v' cs xs ys ys' : List ℕ) (x x' : Whole)
-      → ended x.refusal (numbers x.control) v ys ≡ batch_a wide c w cs xs
-      → ended x'.refusal (numbers x'.control) v' ys' ≡ batch_a wide c w cs xs
+      → ended (whole_number x.answer) (numbers x.control) v ys ≡ batch_a wide c w cs xs
+      → ended (whole_number x'.answer) (numbers x'.control) v' ys' ≡ batch_a wide c w cs xs
       → (x ≡ x') × (v ≡ v') × (ys ≡ ys')
-  -- And two results of the code that say the same number, and leave the caller of c the same record, are one.
-  pub one_whole : (c : Control) (x x' : Result arena.Control WholeRefusal) → whole_number x ≡ whole_number x'
-      → handed_back x c ≡ handed_back x' c → x ≡ x'
+  -- And two answers of the code for the whole that say the same number are one.
+  pub one_whole : (x x' : Result ⊤ WholeRefusal) → whole_number x ≡ whole_number x' → x ≡ x'
 
 -- ---- (vii) a stronger word on fit and order: h is the heap that c and w hold
 
