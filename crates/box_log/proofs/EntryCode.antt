@@ -263,6 +263,12 @@ two_is kind n m = ⊎_elim
     (λ p. rw (le-leb none n p, le-ltb n none p) refl)
     (lt_or_le n none)
 
+-- what is no number makes no call
+module _ (k n : ℕ) where
+  pub one_none : none ≤ n → Odd ≡ one_number k n
+  unfolding one_number
+  one_none p = sym (rw (le-leb none n p) refl)
+
 module _ (rest : List ℕ) where
   pub call_other : {kind : ℕ} → kind ≡ 0 → Odd ≡ called kind rest
   unfolding called
@@ -273,13 +279,12 @@ module _ (rest : List ℕ) where
   call_no_text F V name r m q e = ap or_odd e ∙ call_other (kind_none name (no_text F V r m q))
 
   -- one number
-  one_lost : None ≡ below none (number_of rest) → (k : ℕ) → Odd ≡ one_number k (number_of rest)
-  unfolding one_number
-  one_lost q k = sym (rw (le-leb none (number_of rest) (below_none none (number_of rest) q)) refl)
-
-  pub one_none : (kind : ℕ) {r : Option Entry} → kind < 4 → 0 < kind → None ≡ below none (number_of rest) → r ≡ None → or_odd r ≡ called kind rest
+  pub call_no_number : (kind : ℕ) {r : Option Entry} → kind < 4 → 0 < kind → None ≡ below none (number_of rest) → r ≡ None
+      → or_odd r ≡ called kind rest
   unfolding called
-  one_none kind l p q e = ap or_odd e ∙ one_lost q kind ∙ sym (rw (ne_eqb kind 0 (λ z. omega arith), lt-ltb kind 4 l) refl)
+  call_no_number kind l p q e =
+      ap or_odd e ∙ one_none kind (number_of rest) (below_none none (number_of rest) q)
+      ∙ sym (rw (ne_eqb kind 0 (λ z. omega arith), lt-ltb kind 4 l) refl)
 
   module _ {n : ℕ} (q : Some n ≡ below none (number_of rest)) where
     small : number_of rest < none
@@ -340,7 +345,7 @@ pub ruleset laws = (
   kind_memalign,
   kind_other,
   call_other,
-  one_none,
+  call_no_number,
   one_setup,
   one_malloc,
   one_free,

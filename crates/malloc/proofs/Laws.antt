@@ -42,6 +42,13 @@ module _ (k : Rest) (r w : List ℕ) (c nb n : ℕ) where
     unfolding serve_b
     cut_words e q = q ∙ ap (λ z. (settle_b wide k z w₂ rest n).words) e ∙ ap₂ (λ x y. (settle_b wide k r x y n).words) split_is e₁ ∙ sym (rw (le-ltb n 32 l) refl)
 
+-- the rest of a cut is the spare chunk
+module _ (r w : List ℕ) (c nb n : ℕ) where
+  module _ (rest : ℕ) (w₁ w₂ : List ℕ) (l : 32 ≤ n) (e₁ : rest ≡ wrap wide (c + nb)) (e₂ : w₁ ≡ used_w wide w c nb) (e₃ : w₂ ≡ free_w wide w₁ rest n) where
+    pub cut_dv_image : {r₁ : List ℕ} → r₁ ≡ (replace_dv wide r w₂ rest n).image → r₁ ≡ (serve_b wide to_dv r w c nb n).image
+    unfolding settle_b
+    cut_dv_image q = cut_image to_dv r w c nb n rest w₁ w₂ l e₁ e₂ e₃ refl q
+
 -- ---- the top and the spare chunk
 
 module _ (r w : List ℕ) (c n : ℕ) where

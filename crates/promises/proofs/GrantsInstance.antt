@@ -1,6 +1,6 @@
 -- ONE INSTANCE OF EACH PROMISE of demand 2, of grants, of lending and of settled outcomes, on the histories of `Instance` and three more.
 -- Assumes nothing.
-use Rattle.std.specs.Prelude.{◌≡◌, refl, List, [], ◌∷◌, ◌↔◌, ℕ, ◌+◌, ◌-◌, ◌*◌, ◌≤◌, ◌<◌, ◌%◌, length, get_or, set, replicate}
+use Rattle.std.specs.Prelude.{◌≡◌, refl, List, [], ◌∷◌, ◌↔◌, ℕ, ◌+◌, ◌-◌, ◌*◌, ◌≤◌, ◌<◌, ◌%◌, length, get_or, set, replicate, Result, Err, ⊤}
 use Rattle.std.proofs.Common.{sym, ◌∙◌, ap, inl, inr, arith}
 use Rattle.std.proofs.lemmas.List.{get_or-replicate}
 use Rattle.words.specs.Edition.{wide, no_link}
@@ -13,7 +13,7 @@ use Rattle.tries.specs.Tree.{Tree, leaf, count}
 use Rattle.rules.specs.BinOf.{huge}
 use Rattle.rules.specs.Heap.{Heap, fresh_heap}
 use Rattle.rules.specs.Source.{Small}
-use Rattle.rules.specs.Calls.{Malloc, Free, Realloc, Memalign, Usable, granted, bytes, block_of, answer_to}
+use Rattle.rules.specs.Calls.{Call, Malloc, Free, Realloc, Memalign, Usable, granted, bytes, block_of, answer_to}
 use Rattle.holds.specs.Governed.{Linked, GovernedIn}
 use Rattle.lend.specs.LendBytes.{lent, back}
 use Rattle.calls.specs.CallBytes.{refusal, call_b}
@@ -22,7 +22,9 @@ use Rattle.calls.specs.ByValue.{ends, call_a, set_up_a}
 use Rattle.calls.specs.CallReach.{call_via, Copies}
 use Rattle.calls.specs.Histories.{Event, asks, writes, after}
 use Rattle.calls.proofs.Histories.{calls-held}
-use Rattle.arena.specs.Answers.{answer_of}
+use Rattle.chunk.specs.declared.access.BlockOff.{BlockOff}
+use Rattle.arena.specs.Answers.{answer_of, block_answer, done_answer, bytes_answer}
+use Rattle.arena.specs.declared.answers.Reason.{Reason}
 use Rattle.arena.specs.Record.{numbers}
 use Rattle.arena.specs.declared.control.Control as arena
 use Rattle.arena.specs.Answers as code
@@ -302,17 +304,32 @@ pub stored : back wide (image (then zeros before).control) (then zeros before).w
 stored = kept.lends.store_writes (then zeros before).control (then zeros before).words (after_all before) 16 1 9
     (held zeros count_128 before)
 
--- ---- settled: on 14 words whatever fits the contract of malloc is the refusal, with the given record and words
+-- ---- settled: on 14 words whatever fits a call's contract is the refusal, with the given record and words
 
-bad : (c : arena.Control)
-    → ends (answer_of (Refused BadCount)) (numbers c) (replicate 14 0) ≡ call_a wide (numbers c) (replicate 14 0) (Malloc 24)
+bad : (c : arena.Control) (k : Call)
+    → ends (answer_of (Refused BadCount)) (numbers c) (replicate 14 0) ≡ call_a wide (numbers c) (replicate 14 0) k
 unfolding call_a call_b
-bad c = refl
+bad c k = refl
 
 pub one_outcome : (c d : arena.Control) (v : List ℕ) (a : code.Answer)
     → ends (answer_of a) (numbers d) v ≡ call_a wide (numbers c) (replicate 14 0) (Malloc 24)
     → (a ≡ Refused BadCount) × (d ≡ c) × (v ≡ replicate 14 0)
-one_outcome c d v a p = kept.settled.call c d c (replicate 14 0) v (replicate 14 0) (Malloc 24) a (Refused BadCount) p (bad c)
+one_outcome c d v a p = kept.settled.call c d c (replicate 14 0) v (replicate 14 0) (Malloc 24) a (Refused BadCount) p (bad c (Malloc 24))
+
+pub one_malloc : (c d : arena.Control) (v : List ℕ) (x : Result BlockOff Reason)
+    → ends (block_answer x) (numbers d) v ≡ call_a wide (numbers c) (replicate 14 0) (Malloc 24)
+    → (x ≡ Err BadCount) × (d ≡ c) × (v ≡ replicate 14 0)
+one_malloc c d v x p = kept.settled.block c d c (replicate 14 0) v (replicate 14 0) (Malloc 24) x (Err BadCount) p (bad c (Malloc 24))
+
+pub one_free : (c d : arena.Control) (v : List ℕ) (x : Result ⊤ Reason)
+    → ends (done_answer x) (numbers d) v ≡ call_a wide (numbers c) (replicate 14 0) (Free 16)
+    → (x ≡ Err BadCount) × (d ≡ c) × (v ≡ replicate 14 0)
+one_free c d v x p = kept.settled.done c d c (replicate 14 0) v (replicate 14 0) (Free 16) x (Err BadCount) p (bad c (Free 16))
+
+pub one_usable : (c d : arena.Control) (v : List ℕ) (x : Result ℕ Reason)
+    → ends (bytes_answer x) (numbers d) v ≡ call_a wide (numbers c) (replicate 14 0) (Usable 16)
+    → (x ≡ Err BadCount) × (d ≡ c) × (v ≡ replicate 14 0)
+one_usable c d v x p = kept.settled.bytes c d c (replicate 14 0) v (replicate 14 0) (Usable 16) x (Err BadCount) p (bad c (Usable 16))
 
 -- and of set-up: the refusal with the empty record
 abbrev pub empty : arena.Control
@@ -336,3 +353,7 @@ bad_set_up = refl
 pub one_set_up : (d : arena.Control) (v : List ℕ) (a : code.Answer) → ends (answer_of a) (numbers d) v ≡ set_up_a wide (replicate 14 0)
     → (a ≡ Refused BadCount) × (d ≡ empty) × (v ≡ replicate 14 0)
 one_set_up d v a p = kept.settled.set_up d empty (replicate 14 0) v (replicate 14 0) a (Refused BadCount) p bad_set_up
+
+pub one_fresh : (d : arena.Control) (v : List ℕ) (x : Result ⊤ Reason) → ends (done_answer x) (numbers d) v ≡ set_up_a wide (replicate 14 0)
+    → (x ≡ Err BadCount) × (d ≡ empty) × (v ≡ replicate 14 0)
+one_fresh d v x p = kept.settled.fresh d empty (replicate 14 0) v (replicate 14 0) x (Err BadCount) p bad_set_up

@@ -29,9 +29,10 @@ use Rattle.calls.specs.Rebuilds.{Remakes}
 use Rattle.calls.proofs.Rebuilds.{remakes, rebuild_count, rebuild_unsound}
 use Rattle.calls.specs.Histories.{rebuilds, heap_after, HeldIn}
 use Rattle.calls.proofs.Histories.{remade-held}
+use Rattle.arena.specs.Answers.{done_answer}
 use Rattle.promises.specs.Requests.{Meets, asks_all, in_order, BinWord, Rebuild}
 use Rattle.promises.proofs.HistoriesKept as history
-use Rattle.promises.proofs.SettledKept.{one}
+use Rattle.promises.proofs.SettledKept.{one, one_in, one_done}
 use Rattle.promises.specs.Promises.{Allowed, then}
 use Rattle.promises.proofs.AnyInputKept.{allowed, not_allowed}
 
@@ -199,5 +200,6 @@ rebuild =
       in_a_history = λ w es a. (remade-held wide (then w es) (history.heap w a es) (history.held w a es)).answer;
       stays_live = λ w es x n a p.
           (history.stays w a es (rebuilds ∷ []) x n p tt, λ i l. history.keeps w a es (rebuilds ∷ []) x n i p l tt tt);
+      settled_in_code = λ d d' w v v' start x x' p q. one_in done_answer one_done (rebuild_a wide w start) d d' v v' x x' p q;
       settled = λ d d' w v v' start a a' p q. one (rebuild_a wide w start) d d' v v' a a' p q;
     }

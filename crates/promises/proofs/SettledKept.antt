@@ -81,7 +81,7 @@ count_back (Err why) = ap Err (reason_back why)
 one_block : (x x' : Result BlockOff Reason) → block_answer x ≡ block_answer x' → x ≡ x'
 one_block x x' q = sym (block_back x) ∙ ap block q ∙ block_back x'
 
-one_done : (x x' : Result ⊤ Reason) → done_answer x ≡ done_answer x' → x ≡ x'
+pub one_done : (x x' : Result ⊤ Reason) → done_answer x ≡ done_answer x' → x ≡ x'
 one_done x x' q = sym (finish_back x) ∙ ap finish q ∙ finish_back x'
 
 one_bytes : (x x' : Result ℕ Reason) → bytes_answer x ≡ bytes_answer x' → x ≡ x'
@@ -132,19 +132,29 @@ control_back c = ap (λ z. with_links c z (links (offsets c.treebins))) (links_b
 
 -- ---- outcomes
 
-pub one : (t : Ends) (d d' : Control) (v v' : List ℕ) (a a' : Answer) → ends (answer_of a) (numbers d) v ≡ t
-    → ends (answer_of a') (numbers d') v' ≡ t → (a ≡ a') × (d ≡ d') × (v ≡ v')
-one t d d' v v' a a' p q =
+-- In any type A whose values are told by what they say, two outcomes that are both t are one.
+pub one_in : {A : Type 0} (say : A → rules.Answer) → ((a a' : A) → say a ≡ say a' → a ≡ a')
+    → (t : Ends) (d d' : Control) (v v' : List ℕ) (a a' : A) → ends (say a) (numbers d) v ≡ t → ends (say a') (numbers d') v' ≡ t
+    → (a ≡ a') × (d ≡ d') × (v ≡ v')
+one_in say told t d d' v v' a a' p q =
     let z = p ∙ sym q in (
-      sym (answer_back a) ∙ ap (λ (x : Ends). answer x.answer) z ∙ answer_back a',
+      told a a' (ap (λ (x : Ends). x.answer) z),
       sym (control_back d)
           ∙ ap (λ (x : Ends). control x.control) z ∙ control_back d',
       ap (λ (x : Ends). x.words) z,
     )
 
+pub one : (t : Ends) (d d' : Control) (v v' : List ℕ) (a a' : Answer) → ends (answer_of a) (numbers d) v ≡ t
+    → ends (answer_of a') (numbers d') v' ≡ t → (a ≡ a') × (d ≡ d') × (v ≡ v')
+one = one_in answer_of (λ a a' q. sym (answer_back a) ∙ ap answer q ∙ answer_back a')
+
 pub settled : Settled
 settled =
     record {
+      block = λ c d d' w v v' k x x' p q. one_in block_answer one_block (call_a wide (numbers c) w k) d d' v v' x x' p q;
+      done = λ c d d' w v v' k x x' p q. one_in done_answer one_done (call_a wide (numbers c) w k) d d' v v' x x' p q;
+      bytes = λ c d d' w v v' k x x' p q. one_in bytes_answer one_bytes (call_a wide (numbers c) w k) d d' v v' x x' p q;
+      fresh = λ d d' w v v' x x' p q. one_in done_answer one_done (set_up_a wide w) d d' v v' x x' p q;
       call = λ c d d' w v v' k a a' p q. one (call_a wide (numbers c) w k) d d' v v' a a' p q;
       set_up = λ d d' w v v' a a' p q. one (set_up_a wide w) d d' v v' a a' p q;
       one_block = one_block;

@@ -306,8 +306,25 @@ pub record Swayed : Type 0 where
   pub same_words : (c : Control) (w v : List ℕ) (h : Heap) → Holds wide c w h → Agree h w v → (es : List Event)
       → Agree (heap_after wide (length w) h es) (after wide (box c w) es).words (after wide (box c v) es).words
 
--- NO SECOND OUTCOME: two outcomes that both fit a call's contract are one; the record is the code's, and the answer any of its calls' own.
+-- NO SECOND OUTCOME: two outcomes that both fit a call's contract are one, in the types of the code.
 pub record Settled : Type 0 where
+  -- What a call returns, the record that it hands back and every word: malloc, realloc and memalign return a block,
+  pub block : (c d d' : arena.Control) (w v v' : List ℕ) (k : Call) (x x' : Result BlockOff Reason)
+      → ends (block_answer x) (numbers d) v ≡ call_a wide (numbers c) w k → ends (block_answer x') (numbers d') v' ≡ call_a wide (numbers c) w k
+      → (x ≡ x') × (d ≡ d') × (v ≡ v')
+  -- free says that it is done,
+  pub done : (c d d' : arena.Control) (w v v' : List ℕ) (k : Call) (x x' : Result ⊤ Reason)
+      → ends (done_answer x) (numbers d) v ≡ call_a wide (numbers c) w k → ends (done_answer x') (numbers d') v' ≡ call_a wide (numbers c) w k
+      → (x ≡ x') × (d ≡ d') × (v ≡ v')
+  -- usable returns a number of bytes,
+  pub bytes : (c d d' : arena.Control) (w v v' : List ℕ) (k : Call) (x x' : Result ℕ Reason)
+      → ends (bytes_answer x) (numbers d) v ≡ call_a wide (numbers c) w k → ends (bytes_answer x') (numbers d') v' ≡ call_a wide (numbers c) w k
+      → (x ≡ x') × (d ≡ d') × (v ≡ v')
+  -- and set-up says that it is done.
+  pub fresh : (d d' : arena.Control) (w v v' : List ℕ) (x x' : Result ⊤ Reason)
+      → ends (done_answer x) (numbers d) v ≡ set_up_a wide w → ends (done_answer x') (numbers d') v' ≡ set_up_a wide w
+      → (x ≡ x') × (d ≡ d') × (v ≡ v')
+  -- The same of any answer in the code's own offsets and reasons, with the code's record.
   pub call : (c d d' : arena.Control) (w v v' : List ℕ) (k : Call) (a a' : code.Answer)
       → ends (answer_of a) (numbers d) v ≡ call_a wide (numbers c) w k → ends (answer_of a') (numbers d') v' ≡ call_a wide (numbers c) w k
       → (a ≡ a') × (d ≡ d') × (v ≡ v')

@@ -18,7 +18,8 @@ use Rattle.calls.specs.CallBytes.{refusal}
 use Rattle.calls.specs.Record.{empty_control}
 use Rattle.calls.specs.ByValue.{ends, call_a, rebuild_a}
 use Rattle.calls.specs.Histories.{Box, box, Event, asks, remade_box, after, answers, heap_after, set_up_on}
-use Rattle.arena.specs.Answers.{answer_of}
+use Rattle.arena.specs.Answers.{answer_of, done_answer}
+use Rattle.arena.specs.declared.answers.Reason.{Reason}
 use Rattle.arena.specs.Record.{numbers}
 use Rattle.arena.specs.Answers as code
 use Rattle.arena.specs.declared.control.Control as arena
@@ -88,7 +89,12 @@ pub record Rebuild : Type 0 where
   pub stays_live : (w : List ℕ) (es : List Event) (x n : ℕ) → Allowed (length w) → LiveAt (then w es) (block_of wide x) n
       → let s = remade_box wide (then w es) in
       LiveAt s (block_of wide x) n × ((i : ℕ) → 8 * i < n → get_or s.words (x + 2 + i) 0 ≡ get_or (then w es).words (x + 2 + i) 0)
-  -- No second outcome: two that both fit the contract are one (and so are two results of the code that say the same: `Settled`).
+  -- No second outcome: two that both fit the contract, in the types of the code, are one: what the rebuild returns, the record that it hands
+  -- back, every word.
+  pub settled_in_code : (d d' : arena.Control) (w v v' : List ℕ) (start : ℕ) (x x' : Result ⊤ Reason)
+      → ends (done_answer x) (numbers d) v ≡ rebuild_a wide w start → ends (done_answer x') (numbers d') v' ≡ rebuild_a wide w start
+      → (x ≡ x') × (d ≡ d') × (v ≡ v')
+  -- The same of any answer in the code's own offsets and reasons, with the code's record.
   pub settled : (d d' : arena.Control) (w v v' : List ℕ) (start : ℕ) (a a' : code.Answer)
       → ends (answer_of a) (numbers d) v ≡ rebuild_a wide w start → ends (answer_of a') (numbers d') v' ≡ rebuild_a wide w start
       → (a ≡ a') × (d ≡ d') × (v ≡ v')

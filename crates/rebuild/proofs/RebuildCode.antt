@@ -1,6 +1,6 @@
 -- The rebuild's two walks: one law for each way out of a loop, and one for a turn; and what a top that was found says. Over the edition.
 -- Assumes nothing.
-use mathlib.Core.Bool.{Bool, true, false}
+use mathlib.Core.Bool.{Bool, true, false, ◌&&◌}
 use mathlib.Core.List.{List}
 use mathlib.Core.Path.{◌≡◌, refl, sym, ap, ◌∙◌, subst}
 use Prim.Native.Nat.{ℕ, zero, suc, ◌+◌, ◌-◌, ◌*◌, ◌≤◌, ◌<◌}
@@ -19,9 +19,15 @@ use Rattle.decides.specs.MarksLaws.{and_left, and_right}
 use Rattle.decides.specs.SoundLaws.{count_yes}
 use Rattle.tiles.specs.declared.Tile.{Tile}
 use Rattle.std.specs.Prelude.{Some, None}
-use Rattle.rebuild.specs.RebuildBytes.{place_of, top_here, seek_top, top_of, enter_b, fill_from}
+use Rattle.rebuild.specs.RebuildBytes.{place_of, top_here, seek_top, top_of, enter_b, fill_from, empty_image, allowed_start, rebuilt, rebuild_b}
 
 -- ---- the top
+
+module _ (E : Edition) (w : List ℕ) (end p : ℕ) (pu : Bool) where
+  -- the top follows no free chunk
+  pub here_after : pu ≡ false → false ≡ top_here E w end p pu
+  unfolding top_here
+  here_after q = sym (rw q refl)
 
 -- a top that is there lies before its end
 here_before : (E : Edition) (w : List ℕ) (end p : ℕ) (pu : Bool) → top_here E w end p pu ≡ true → p < end
@@ -172,5 +178,12 @@ no_top E w end = by (λ b. eqb (top_of E w end) (no_link E) ≡ b → pick b Non
 
 pub count_room : (w : List ℕ) {x : Bool} → x ≡ count_ok (length w) → x ≡ true → 80 ≤ 8 * length w
 count_room w e q = omega (arith, count_yes (length w) (sym e ∙ q))
+
+module _ (E : Edition) (w : List ℕ) (start : ℕ) where
+  -- a refusal by row 1, as the definition says it
+  pub refused_1 : {n : ℕ} {i : List ℕ} → (count_ok (length w) && allowed_start start) ≡ false → n ≡ 1 → i ≡ empty_image E (no_link E) 0 0
+      → rebuilt n i w ≡ rebuild_b E w start
+  unfolding rebuild_b
+  refused_1 q a f = rw (q, a, f) refl
 
 pub ruleset laws = (seek_start, seek_out, seek_here, seek_bad, seek_fits, seek_turn, fill_start, out_image, out_words, done_image, done_words, fill_turn, top_rest, no_top, count_room)

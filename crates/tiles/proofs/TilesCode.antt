@@ -1,18 +1,27 @@
 -- The walk of the heads: one law for each way out of the loop, and one for a turn. Assumes nothing.
 use mathlib.Core.Bool.{Bool, true, false, ◌&&◌}
 use mathlib.Core.List.{List}
+use mathlib.Core.Logic.{⊎_elim}
 use mathlib.Core.Path.{◌≡◌, refl, sym, ap, ◌∙◌}
 use Prim.Native.Nat.{ℕ, zero, suc, ◌+◌, ◌-◌, ◌*◌, ◌^◌, ◌≤◌, ◌<◌}
 use native.Mathlib.Omega.{arith}
 use lib.Dec.{eqb, leb}
-use borrow.Author.Tests.{lt-ltb, le-ltb, leb-true}
+use borrow.Author.Tests.{eq-eqb, ne_eqb, lt-ltb, le-ltb, le-leb, lt-leb, leb-true}
 use Rattle.std.specs.Prelude.{Some, None}
-use Rattle.words.specs.Logic.{pick, pick_case, by, false-true}
+use Rattle.words.specs.Logic.{pick, pick_case, by, same?, le_or_lt, false-true}
 use Rattle.words.specs.Edition.{Edition, wide, W, flags_of}
 use Rattle.chunk.specs.Bytes.{word}
 use Rattle.marks.specs.Marks.{set_mark, checked, turns}
 use Rattle.tiles.specs.declared.Tile.{Tile}
 use Rattle.tiles.specs.TilesBytes.{Step, step, tile_of, used_flags, head_size, room_for, free_ok, chunk_at, walk_heads}
+
+-- ---- two tests that say the same
+
+pub eqb_same : (a b c d : ℕ) → (a ≡ b → c ≡ d) → (c ≡ d → a ≡ b) → eqb a b ≡ eqb c d
+eqb_same a b c d f g = ⊎_elim (λ q. eq-eqb a b q ∙ sym (eq-eqb c d (f q))) (λ n. ne_eqb a b n ∙ sym (ne_eqb c d (λ z. n (g z)))) (same? a b)
+
+pub leb_same : (a b c d : ℕ) → (a ≤ b → c ≤ d) → (b < a → d < c) → leb a b ≡ leb c d
+leb_same a b c d f g = ⊎_elim (λ l. le-leb a b l ∙ sym (le-leb c d (f l))) (λ l. lt-leb a b l ∙ sym (lt-leb c d (g l))) (le_or_lt a b)
 
 -- ---- a chunk
 
