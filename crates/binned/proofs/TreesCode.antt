@@ -144,6 +144,12 @@ module _ (r w s : List ℕ) (i : ℕ) (m : List ℕ) {t : ℕ} (e : t ≡ link_o
   told : x ≡ bit_ok wide (get_or r 1 0) i (link_of tree r i)
   told = e₁ ∙ ap (bit_ok wide (get_or r 1 0) i) e
 
+  pub tree_bin_empty : x ≡ true → t ≡ 2 ^ 64 - 1 → checked true m ≡ tree_bin_ok wide r w s i m
+  unfolding tree_bin_ok
+  tree_bin_empty q n =
+      tree_none w i (i / 2 + 4) (8 * trie_low wide i) t (root_mark wide) s m n
+      ∙ ap (λ a. tree_ok wide w i (i / 2 + 4) (8 * trie_low wide i) a (root_mark wide) s m) e ∙ sym (rw (sym told ∙ q) refl)
+
   pub tree_root : {lo : ℕ} {y : Bool} {m₁ : List ℕ} → x ≡ true → i < 32 → lo ≡ min_size (i % 32) → checked y m₁ ≡ tree_ok wide w i (i / 2 + 4) lo t (root_mark wide) s m → checked y m₁ ≡ tree_bin_ok wide r w s i m
   unfolding tree_bin_ok
   tree_root q l z u =
@@ -186,4 +192,4 @@ module _ (r w m₀ : List ℕ) (i : ℕ) (m s : List ℕ) (v : Trees r w m₀ i 
     pub trees_turn : {s₁ : List ℕ} → x ≡ true → (x ≡ true → s₁ ≡ s) → Trees r w m₀ (i + 1) m₁ s₁
     trees_turn q f = record { bins = bins_turn (tree_bin_ok wide r w no_marks) m₀ i m v.bins l here q; none = f q ∙ v.none }
 
-pub ruleset laws = (root-fits, trees_start)
+pub ruleset laws = (root-fits, trees_start, tree_bin_empty)

@@ -150,7 +150,8 @@ fn tree_bin_ok(r: &[u64; 72], w: &[u64], m: &mut Marks, sizes: &mut Marks, i: u3
         low: min_size_for_tree_index(i),
         bits: i / 2 + 4,
     };
-    bit_ok(r[TREEMAP], i, t) && tree_ok(w, m, sizes, t, root)
+    // Most bins are empty: `tree_ok` would say yes too, behind a call.
+    bit_ok(r[TREEMAP], i, t) && (t.0 == NONE || tree_ok(w, m, sizes, t, root))
 }
 
 pub fn tree_bins_ok(r: &[u64; 72], w: &[u64], m: &mut Marks) -> bool
