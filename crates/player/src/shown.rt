@@ -1,6 +1,7 @@
 // What a line says of an answer.
-ghost use Rattle.std.specs.Prelude.{◌≡◌};
+ghost use Rattle.std.specs.Prelude.{◌≡◌, refl};
 ghost use Rattle.rules.specs.Calls.{Answer, granted, done, bytes};
+ghost use Rattle.calls.specs.CallBytes.{refusal};
 ghost use Rattle.arena.specs.Answers.{answer_in};
 ghost use Rattle.player.specs.Replayed.{offset_of};
 
@@ -13,6 +14,9 @@ pub trait Shown: Copy {
 
     fn offset(self) -> u64
         ensures { result ≡ offset_of (says self) };
+
+    // A grant is no refusal.
+    ghost grants: { (x : Self) → refusal (says x) ≡ 0 };
 }
 
 impl Shown for BlockOff {
@@ -21,6 +25,8 @@ impl Shown for BlockOff {
     fn offset(self) -> u64 {
         self.0
     }
+
+    ghost grants = { λ b. refl };
 }
 
 impl Shown for () {
@@ -29,6 +35,8 @@ impl Shown for () {
     fn offset(self) -> u64 {
         0
     }
+
+    ghost grants = { λ x. refl };
 }
 
 impl Shown for u64 {
@@ -37,6 +45,8 @@ impl Shown for u64 {
     fn offset(self) -> u64 {
         0 // bytes are no place in the arena
     }
+
+    ghost grants = { λ n. refl };
 }
 
 // 0 but for a granted block.
