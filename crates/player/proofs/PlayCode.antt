@@ -12,7 +12,7 @@ use Rattle.decides.specs.MarksLaws.{and_right}
 use Rattle.calls.specs.CallBytes.{told, refusal, call_b}
 use Rattle.calls.specs.Record.{image}
 use Rattle.calls.specs.ByValue.{ends, set_up_a}
-use Rattle.arena.specs.Answers.{done_answer}
+use Rattle.arena.specs.Answers.{answer_in, done_answer, number_in}
 use Rattle.arena.specs.declared.answers.Reason.{Reason}
 use Rattle.box_log.specs.declared.entry.Entry.{Entry}
 use Rattle.box_log.specs.declared.entry.Entry.TheVariants.{Setup, Malloc, Free, Realloc, Memalign, Odd}
@@ -22,6 +22,12 @@ use Rattle.player.specs.declared.play.Played.{Played}
 
 pub shown_is : (words : ℕ) (a : Answer) {n k : ℕ} → n ≡ refusal a → k ≡ offset_of a → said words n k ≡ shown words a
 shown_is words a {n} {k} p q = ap (λ z. said words z k) p ∙ ap (said words (refusal a)) q
+
+-- a result's number is that of its answer
+pub number_says : {T : Type 0} (says : T → Answer) → ((x : T) → refusal (says x) ≡ 0) → (a : Result T Reason)
+    → number_in a ≡ refusal (answer_in says a)
+number_says says grants (Ok x) = sym (grants x)
+number_says says grants (Err why) = refl
 
 -- ---- whether there is an arena at work
 

@@ -4,10 +4,10 @@
 
 ghost use Rattle.std.specs.Prelude.{◌≡◌};
 ghost use Rattle.rules.specs.Calls.{Malloc, Free, Realloc, Memalign};
-ghost use Rattle.arena.specs.Answers.{block_answer, done_answer};
+ghost use Rattle.arena.specs.Answers.{answer_in};
 ghost use Rattle.player.specs.PlayBytes.{said, shown, is_ready, scene, call_on, set_up_of, play_b};
 
-use crate::shown::offset_of;
+use crate::shown::{Shown, offset_of};
 use arena::answers::{Reason, Reply, refusal_of};
 use arena::control::image_of;
 use arena::on_image;
@@ -22,25 +22,14 @@ pub struct Played {
     pub offset: u64,
 }
 
-// What the line says of a call that grants a block.
-fn granted(words: usize, a: Result<BlockOff, Reason>) -> Played
-    ensures { result ≡ shown words (block_answer a) }
+// What the line says of a call's answer.
+fn answered<T: Shown>(words: usize, a: Result<T, Reason>) -> Played
+    ensures { result ≡ shown words (answer_in T.says a) }
 {
     Played {
         words,
         refusal: refusal_of(&a),
         offset: offset_of(a),
-    }
-}
-
-// And of one that is done.
-fn done(words: usize, a: Result<(), Reason>) -> Played
-    ensures { result ≡ shown words (done_answer a) }
-{
-    Played {
-        words,
-        refusal: refusal_of(&a),
-        offset: 0,
     }
 }
 
@@ -56,15 +45,15 @@ fn set_up(words: usize, r: &mut [u64; 72], w: &mut [u64], n: usize) -> Played
     ensures { scene result r.new w.new ≡ set_up_of words r.old w.old n }
 {
     if n > w.len() {
-        return done(words, Err(Reason::BadCount));
+        return answered::<()>(words, Err(Reason::BadCount));
     }
     let Reply { answer, control } = arena::setup(&mut w[..n]);
     match answer {
         Ok(()) => {
             *r = image_of(control);
-            done(n, answer)
+            answered(n, answer)
         }
-        Err(_) => done(words, answer),
+        Err(_) => answered(words, answer),
     }
 }
 
@@ -79,12 +68,12 @@ pub fn play(e: Entry, words: usize, r: &mut [u64; 72], w: &mut [u64]) -> Played
             offset: 0,
         },
         Entry::Setup(n) => set_up(words, r, w, n as usize),
-        _ if !ready(words, w.len()) => done(words, Err(Reason::Unsound)),
-        Entry::Malloc(n) => granted(words, on_image::malloc(r, &mut w[..words], n)),
-        Entry::Free(b) => done(words, on_image::free(r, &mut w[..words], BlockOff(b))),
+        _ if !ready(words, w.len()) => answered::<()>(words, Err(Reason::Unsound)),
+        Entry::Malloc(n) => answered(words, on_image::malloc(r, &mut w[..words], n)),
+        Entry::Free(b) => answered(words, on_image::free(r, &mut w[..words], BlockOff(b))),
         Entry::Realloc(b, n) => {
-            granted(words, on_image::realloc(r, &mut w[..words], BlockOff(b), n))
+            answered(words, on_image::realloc(r, &mut w[..words], BlockOff(b), n))
         }
-        Entry::Memalign(a, n) => granted(words, on_image::memalign(r, &mut w[..words], a, n)),
+        Entry::Memalign(a, n) => answered(words, on_image::memalign(r, &mut w[..words], a, n)),
     }
 }
