@@ -2,7 +2,7 @@
 -- some bins goes on doing so when one bin changes; and, for each definition, the operators of the code that give it. In terms of the digits
 -- of a number (`Bit`), and of a yes or no for each bin. Assumes nothing.
 use Rattle.std.specs.Prelude.{◌≡◌, ℕ, zero, suc, ◌+◌, ◌-◌, ◌*◌, ◌/◌, ◌%◌, ◌^◌, ◌<◌, ◌≤◌, min, max, Bool, true, false, not, ◌≢◌, ◌==◌, nat_eq, nat_lt, refl, Option, Some, None}
-use Rattle.std.proofs.Common.{sym, ap, ap₂, ◌∙◌, subst, ⊎_elim, mod-eq_of_lt, one-mul, lt_of_le_of_lt, lt_of_lt_of_le, le_antisymm, sub-le, mod-lt, zero-mul, le_of_lt, sub-add_cancel, add_comm, div-one, zero-add, add-one, arith, lt-ltb, le-ltb, ne_eqb, pow_pos, pow_mono, pow-add}
+use Rattle.std.proofs.Common.{sym, ap, ap₂, ◌∙◌, subst, ⊎_elim, mod-eq_of_lt, one-mul, lt_of_le_of_lt, lt_of_lt_of_le, le_antisymm, sub-le, mod-lt, zero-mul, le_of_lt, sub-add_cancel, add_comm, div-one, zero-add, add-one, arith, lt-ltb, le-ltb, le-leb, ne_eqb, pow_pos, pow_mono, pow-add}
 use Rattle.std.proofs.Math.Nat.{mod_self, sub-zero}
 use Rattle.std.proofs.Math.Decide.{ℕ_discrete, dec_lt}
 use Rattle.std.proofs.Math.Pow.{pow-lt, shr_mod, ones_lt, high_ones}
@@ -14,7 +14,7 @@ use Rattle.words.specs.Logic.{pick, le_or_lt}
 use Rattle.index.specs.Bit.{bit, tell}
 use Rattle.index.specs.Digits.{bit-zero, bit_shr, bit_small, bit_of_zero, bit_or_lem, bit_and_lem, bit_not, bit_pow, bit_pow_other, bits_ext, trailing_clear, trailing_set, trailing_even, trailing_odd, trailing_low, trailing_more, trailing_mono, trailing_shifted}
 use Rattle.index.specs.Words.{and_pow, and_not, and_neg, or_neg, neg_word}
-use Rattle.index.specs.BinMap.{Tells, mark, clear, left_bits, least_bit, First, FirstBin, first_from, own_or_next, in_map}
+use Rattle.index.specs.BinMap.{Tells, mark, clear, bit_place, left_bits, least_bit, First, FirstBin, first_from, own_or_next, in_map}
 
 -- ---- the machine operations
 
@@ -44,6 +44,10 @@ and_tests i m = ap (λ (x : ℕ). not (x == 0)) (and_pow i m) ∙ go (bit i m) (
     go zero h = ap (λ (x : ℕ). not (x == 0)) (zero-mul (2 ^ i))
     go (suc zero) h = ap (λ (x : ℕ). not (x == 0)) (one-mul (2 ^ i)) ∙ ap not (ne_eqb (2 ^ i) 0 (λ e. omega (arith, pow_pos i)))
     go (suc (suc b)) h = absurd (omega arith)
+
+-- where a bit stands, for each width that a word has
+pub bit_place_is : (w i : ℕ) → 0 < w → w ≤ 64 → bit_place w i ≡ i % w
+bit_place_is w i l m = rw (lt-ltb 0 w l, le-leb w 64 m) refl
 
 -- ---- what a mark and a clear do to each bit
 
