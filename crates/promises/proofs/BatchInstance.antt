@@ -1,7 +1,7 @@
 -- ONE BATCH, so that nothing in `Batch` is empty: eight calls on 128 words, among them one of an unknown kind, numbers that no kind uses, a
 -- resize that moves and two refusals. What it answers is computed by the rules, which the calls obey; the promises tell the rest. Assumes
 -- nothing.
-use Rattle.std.specs.Prelude.{◌≡◌, refl, List, [], ◌∷◌, ℕ, zero, suc, ◌+◌, ◌*◌, ◌<◌, get_or, replicate}
+use Rattle.std.specs.Prelude.{◌≡◌, refl, List, [], ◌∷◌, ℕ, zero, suc, ◌+◌, ◌*◌, ◌<◌, get_or, replicate, Err}
 use Rattle.std.proofs.Common.{◌∙◌, ap, inl, inr, arith}
 use Rattle.std.proofs.Math.Option.{some}
 use Rattle.words.specs.Edition.{wide}
@@ -14,7 +14,12 @@ use Rattle.calls.specs.CallBytes.{refusal}
 use Rattle.calls.specs.ByValue.{call_a}
 use Rattle.calls.specs.Histories.{Box, after, heap_after, set_up_on}
 use Rattle.calls.proofs.Histories.{calls-held, from_set_up}
-use Rattle.batch.specs.BatchBytes.{Ended, batch_a}
+use Rattle.arena.specs.Record.{numbers}
+use Rattle.arena.specs.declared.control.Control as arena
+use Rattle.batch.specs.BatchBytes.{Ended, ended, batch_a}
+use Rattle.batch.specs.Whole.{whole_number}
+use Rattle.batch.specs.declared.whole.Whole.{Whole}
+use Rattle.batch.specs.declared.whole.WholeRefusal.TheVariants.{BadCount}
 use Rattle.promises.specs.Requests.{listed, schedule, placed, refusal_of, offset_of}
 use Rattle.promises.proofs.AnyInputKept.{fresh_start}
 use Rattle.promises.proofs.AllKept.{requests_kept}
@@ -104,6 +109,27 @@ short_list =
 
 pub odd_count : (batch_a wide start.control (replicate 15 0) calls []).refusal ≡ 1
 odd_count = (requests_kept.batch.row_1 start.control (replicate 15 0) calls []).1 (λ a. omega (arith, a.0))
+
+abbrev odd : List ℕ
+odd = replicate 15 0
+
+-- on 15 words whatever fits the contract is that refusal, with the given record, words and list for the answers
+lost : (c : arena.Control) → ended 1 (numbers c) odd room ≡ batch_a wide (numbers c) odd calls room
+unfolding batch_a
+lost c = refl
+
+pub one_number : (c d : arena.Control) (v ys : List ℕ) (n : ℕ)
+    → ended n (numbers d) v ys ≡ batch_a wide (numbers c) odd calls room
+    → (n ≡ 1) × (d ≡ c) × (v ≡ odd) × (ys ≡ room)
+one_number c d v ys n p =
+    requests_kept.batch.settled_by_number (numbers c) odd v odd calls room ys room n 1 d c p (lost c)
+
+pub one_outcome : (c : arena.Control) (v ys : List ℕ) (x : Whole)
+    → ended (whole_number x.answer) (numbers x.control) v ys ≡ batch_a wide (numbers c) odd calls room
+    → (x ≡ record { answer = Err BadCount; control = c }) × (v ≡ odd) × (ys ≡ room)
+one_outcome c v ys x p =
+    requests_kept.batch.settled (numbers c) odd v odd calls room ys room x (record { answer = Err BadCount; control = c })
+    p (lost c)
 
 -- the same calls, other numbers where no kind looks
 pub ignored : batch_a wide start.control start.words (0 ∷ 24 ∷ 1 ∷ []) room

@@ -483,22 +483,27 @@ answer_back (Err ListsDoNotFit) = refl
 one_whole : (x x' : Result ⊤ WholeRefusal) → whole_number x ≡ whole_number x' → x ≡ x'
 one_whole x x' q = sym (answer_back x) ∙ ap answer_from q ∙ answer_back x'
 
+settled_by_number : (c : Control) (w v v' cs xs ys ys' : List ℕ) (n n' : ℕ) (d d' : arena.Control)
+    → ended n (numbers d) v ys ≡ batch_a wide c w cs xs → ended n' (numbers d') v' ys' ≡ batch_a wide c w cs xs
+    → (n ≡ n') × (d ≡ d') × (v ≡ v') × (ys ≡ ys')
+settled_by_number c w v v' cs xs ys ys' n n' d d' p q =
+    let z = p ∙ sym q in (
+      ap (λ (b : Ended). b.refusal) z,
+      sym (settling.control_back d) ∙ ap (λ (b : Ended). settling.control b.control) z ∙ settling.control_back d',
+      ap (λ (b : Ended). b.words) z,
+      ap (λ (b : Ended). b.answers) z,
+    )
+
 abbrev with_control : Result ⊤ WholeRefusal → arena.Control → Whole
 with_control a d = record { answer = a; control = d }
-
-abbrev whole_of : Ended → Whole
-whole_of b = with_control (answer_from b.refusal) (settling.control b.control)
 
 settled : (c : Control) (w v v' cs xs ys ys' : List ℕ) (x x' : Whole)
     → ended (whole_number x.answer) (numbers x.control) v ys ≡ batch_a wide c w cs xs
     → ended (whole_number x'.answer) (numbers x'.control) v' ys' ≡ batch_a wide c w cs xs
     → (x ≡ x') × (v ≡ v') × (ys ≡ ys')
 settled c w v v' cs xs ys ys' x x' p q =
-    let z = p ∙ sym q in (sym (back x) ∙ ap whole_of z ∙ back x', ap (λ (b : Ended). b.words) z, ap (λ (b : Ended). b.answers) z)
-  where
-    back : (x : Whole) → whole_of (ended (whole_number x.answer) (numbers x.control) [] []) ≡ x
-    back x = ap (with_control (answer_from (whole_number x.answer))) (settling.control_back x.control)
-        ∙ ap (λ a. with_control a x.control) (answer_back x.answer)
+    let t = settled_by_number c w v v' cs xs ys ys' (whole_number x.answer) (whole_number x'.answer) x.control x'.control p q in
+    (ap (λ a. with_control a x.control) (one_whole x.answer x'.answer t.0) ∙ ap (with_control x'.answer) t.1, t.2, t.3)
 
 pub batch : Batch
 batch =
@@ -518,5 +523,6 @@ batch =
       in_a_history = in_a_history;
       same_answers = same_answers;
       settled = settled;
+      settled_by_number = settled_by_number;
       one_whole = one_whole;
     }

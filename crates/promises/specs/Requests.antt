@@ -190,6 +190,10 @@ pub record Batch : Type 0 where
       → ended (whole_number x.answer) (numbers x.control) v ys ≡ batch_a wide c w cs xs
       → ended (whole_number x'.answer) (numbers x'.control) v' ys' ≡ batch_a wide c w cs xs
       → (x ≡ x') × (v ≡ v') × (ys ≡ ys')
+  -- The same of any number for the whole, the code's or another, with the code's record.
+  pub settled_by_number : (c : Control) (w v v' cs xs ys ys' : List ℕ) (n n' : ℕ) (d d' : arena.Control)
+      → ended n (numbers d) v ys ≡ batch_a wide c w cs xs → ended n' (numbers d') v' ys' ≡ batch_a wide c w cs xs
+      → (n ≡ n') × (d ≡ d') × (v ≡ v') × (ys ≡ ys')
   -- And two answers of the code for the whole that say the same number are one.
   pub one_whole : (x x' : Result ⊤ WholeRefusal) → whole_number x ≡ whole_number x' → x ≡ x'
 
